@@ -1,0 +1,3 @@
+pub mod PlaceLists
+pub mod Bounds
+pub mod Multiples
