@@ -1,0 +1,9 @@
+pub mod Toolkit
+pub mod Joined
+pub mod Walks
+pub mod Asked
+pub mod Pigeon
+pub mod Core
+pub mod Loops
+pub mod Rotate
+pub mod Main
