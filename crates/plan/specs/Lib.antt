@@ -1,0 +1,10 @@
+pub mod Faults
+pub mod Records
+pub mod Plans
+pub mod Rules
+pub mod Sound
+pub mod Taking
+pub mod Calls
+pub mod Histories
+pub mod Left
+pub mod Law
