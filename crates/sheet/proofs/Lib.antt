@@ -1,0 +1,5 @@
+pub mod Tests
+pub mod Certificates
+pub mod Verdicts
+pub mod Replies
+pub mod Samples
