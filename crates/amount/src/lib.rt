@@ -1,4 +1,7 @@
 // Amounts: what a wait takes, in one of several measures.
+
+#![tactic(auto)]
+
 pub mod filed;
 pub mod measure;
 pub mod reversed_seconds;

@@ -1,6 +1,9 @@
 // The engine's side of the benchmark: solves a plan of 1,000 events and 20,000 waits drawn by a linear congruence, and
 // prints a checksum of the two tables; with the word `time`, also the milliseconds that solving took. The baseline in C
 // draws the same network.
+
+#![tactic(auto)]
+
 use amount::measure::Measure;
 use amount::seconds::{Seconds, SpanSeconds};
 use network::Wait;

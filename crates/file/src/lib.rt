@@ -1,4 +1,7 @@
 // Suppliers' files: opening the bytes of a file for one measure.
+
+#![tactic(auto)]
+
 ghost use Rattle.std.specs.Prelude.{◌≡◌};
 ghost use Rattle.file.specs.Words.{words_of};
 ghost use Rattle.file.specs.Contents.{contents, named_measure, meant, plain_claim, fitted_waits};

@@ -1,4 +1,7 @@
 // Networks: events that recur in every round, and the waits between them.
+
+#![tactic(auto)]
+
 ghost use Rattle.std.specs.Prelude.{◌≡◌, ℕ, ◌<◌, ◌≤◌, List, length, ℤ};
 ghost use Rattle.network.specs.declared.Wait.{Wait};
 ghost use Rattle.network.specs.Networks.{plain, wait_at, Sound};

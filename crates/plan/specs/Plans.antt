@@ -1,6 +1,7 @@
 -- The plan as the planner sees it.
 use Rattle.std.specs.Prelude.{ℕ, min, Bool, true, false, cond, List, [], map, length, take, nat_lt}
 use Rattle.amount.specs.Rows.{Row}
+use Rattle.amount.specs.declared.measure.Measure.{Ghosts}
 use Rattle.network.specs.declared.Wait.{Wait}
 use Rattle.network.specs.Networks.{PlainWait, plain}
 use Rattle.plan.specs.declared.Draft.{Draft}
@@ -28,18 +29,18 @@ meant d row count ws = map (plain d row) (take count ws)
 abbrev pub spanned_row : {X S : Type 0} (d : ℕ) → (X → Row d) → (S → X) → S → Row d
 spanned_row d row wide s = row (wide s)
 
-module _ {X S : Type 0} (d : ℕ) (row : X → Row d) (wide : S → X) where
+module _ {X S : Type 0} {G : Ghosts X S} (d : ℕ) (row : X → Row d) (wide : S → X) where
   -- the plan that a draft is, that a fixed plan is, and that one in either state is
-  abbrev pub draft_plan : Draft X S → Plan S
+  abbrev pub draft_plan : Draft X S G → Plan S
   draft_plan p = record { fixed = false; events = p.events; waits = meant d (spanned_row d row wide) p.count p.memory.now; memory = p.memory.now }
 
-  abbrev pub fixed_plan : Fixed X S → Plan S
+  abbrev pub fixed_plan : Fixed X S G → Plan S
   fixed_plan p = record { fixed = true; events = p.events; waits = meant d (spanned_row d row wide) p.count p.memory.now; memory = p.memory.now }
 
-  abbrev pub any_plan : AnyPlan X S → Plan S
+  abbrev pub any_plan : AnyPlan X S G → Plan S
   any_plan p = record { fixed = p.fixed; events = p.events; waits = meant d (spanned_row d row wide) p.count p.memory.now; memory = p.memory.now }
 
-  abbrev pub state_plan : State X S → Plan S
+  abbrev pub state_plan : State X S G → Plan S
   state_plan (Editing p) = draft_plan p
   state_plan (Settled p) = fixed_plan p
 

@@ -1,4 +1,7 @@
 // Plans: a list of waits that a planner edits as a draft, fixes and solves.
+
+#![tactic(auto)]
+
 ghost use Rattle.std.specs.Prelude.{◌≤◌, length};
 ghost use Rattle.plan.specs.Records.{Starts, Ends};
 

@@ -1,4 +1,7 @@
 // Tests of plans: histories of calls, worked out by hand.
+
+#![tactic(auto)]
+
 #[cfg(test)]
 mod tests {
     use amount::filed::Filed;

@@ -1,4 +1,7 @@
 // A planner's console: reads calls as lines of text from standard input, makes them on one plan, and prints each answer.
+
+#![tactic(auto)]
+
 mod lines;
 mod printing;
 

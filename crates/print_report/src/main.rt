@@ -1,4 +1,7 @@
 // Prints the report of a supplier's file that is read from standard input.
+
+#![tactic(auto)]
+
 use std::io;
 use std::io::{Read, Write};
 

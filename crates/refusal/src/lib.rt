@@ -1,5 +1,7 @@
 // Refusals: what a person or a program is told when something is declined.
 
+#![tactic(auto)]
+
 // The layer that declines.
 #[derive(Clone, Copy, PartialEq, Eq, Debug)]
 pub enum Layer {

@@ -1,4 +1,7 @@
 // The printed report: the period of a filed network, its headway, loop and departures, as lines of text.
+
+#![tactic(auto)]
+
 ghost use Rattle.std.specs.Prelude.{◌≡◌, ◌≤◌, length};
 ghost use Rattle.file.specs.Words.{words_of};
 ghost use Rattle.file.specs.Contents.{named_measure};

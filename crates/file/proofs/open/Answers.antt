@@ -14,7 +14,7 @@ invariant_of-result g c =
     let l = c.in_ok-outline.outline in
     let e = c.in_ok-outline.ensures in
     let f = facts c.file_number.result c.place_count-places.result c.args.bytes.now l.events l.waits l.claimed e.0 e.1 in
-    (omega (arith, c.place_count-places.ensures, g.met.X.Measure.few.1), (f.few, (f.short, (f.room, (f.starts, (f.ends, (f.spans, tt)))))))
+    record { small = omega (arith, c.place_count-places.ensures, g.met.X.Measure.few.1); few = f.few; short = f.short; room = f.room; starts = f.starts; ends = f.ends; spans = f.spans }
 
 pub returns : goal.returns
 returns g c =

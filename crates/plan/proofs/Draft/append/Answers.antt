@@ -36,7 +36,7 @@ invariant_of-self g c =
     let inv = c.loop-i.invariant in
     let at = c.args.self.now.count + c.loop-i.i in
     let in' : at < length self.memory.now = search rules in
-    (self.few, (self.short, (search rules, (first_set (λ w. w.start < self.events) self.memory.now self.count self.count at _ in' (search rules) (λ k lt ne. lt) self.starts, (first_set (λ w. w.end < self.events) self.memory.now self.count self.count at _ in' (search rules) (λ k lt ne. lt) self.ends, tt)))))
+    record { few = self.few; short = self.short; fits = search rules; starts = first_set (λ w. w.start < self.events) self.memory.now self.count self.count at _ in' (search rules) (λ k lt ne. lt) self.starts; ends = first_set (λ w. w.end < self.events) self.memory.now self.count self.count at _ in' (search rules) (λ k lt ne. lt) self.ends }
 
 pub loop-i-preserved : goal.loop-i-preserved
 loop-i-preserved g c =

@@ -11,7 +11,7 @@ use Rattle.plan.proofs.Draft.drop_wait.Goals as goal
 pub invariant_of-self : goal.invariant_of-self
 invariant_of-self g c =
     let self = c.loop-j.self in
-    (self.few, (self.short, (search rules, (first_put (λ w. w.start < self.events) _ _ _ _ (search rules) (search rules) (self.starts _ _ (search rules)) self.starts, (first_put (λ w. w.end < self.events) _ _ _ _ (search rules) (search rules) (self.ends _ _ (search rules)) self.ends, tt)))))
+    record { few = self.few; short = self.short; fits = search rules; starts = first_put (λ w. w.start < self.events) _ _ _ _ (search rules) (search rules) (self.starts _ _ (search rules)) self.starts; ends = first_put (λ w. w.end < self.events) _ _ _ _ (search rules) (search rules) (self.ends _ _ (search rules)) self.ends }
 
 pub loop-j-preserved : goal.loop-j-preserved
 loop-j-preserved g c =

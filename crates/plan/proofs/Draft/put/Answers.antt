@@ -18,7 +18,7 @@ returns-then-at-ge-MOST_WAITS g c =
 pub invariant_of-self : goal.invariant_of-self
 invariant_of-self g c =
     let n = c.args.self.now.events in
-    (search rules, (search rules, (search rules, (first_push (λ w. w.start < n) _ _ _ (search rules) (search rules) c.args.self.now.starts, (first_push (λ w. w.end < n) _ _ _ (search rules) (search rules) c.args.self.now.ends, tt)))))
+    record { few = search rules; short = search rules; fits = search rules; starts = first_push (λ w. w.start < n) _ _ _ (search rules) (search rules) c.args.self.now.starts; ends = first_push (λ w. w.end < n) _ _ _ (search rules) (search rules) c.args.self.now.ends }
 
 pub returns : goal.returns
 returns g c =
