@@ -1,5 +1,5 @@
 -- How the waits of a network come to stand behind those of a plan.
-use Rattle.std.proofs.Common.{◌≡◌, ℕ, suc, ◌+◌, ◌<◌, true, List, [], ◌∷◌, ◌++◌, length, take, drop, set, ℤ, pos, neg_ℤ, None, sym, refl, ap, ◌∙◌, add_zero, arith, length-set, drop-set-lt}
+use Rattle.std.proofs.Common.{◌≡◌, ℕ, suc, ◌+◌, ◌<◌, true, List, [], ◌∷◌, ◌++◌, length, take, drop, set, ℤ, pos, neg_ℤ, None, sym, refl, ap, ◌∙◌, add-zero, arith, length-set, drop-set-lt}
 use lib.Signed.{le_z}
 use Rattle.std.proofs.lemmas.List.{take_more, append_assoc, append-nil, drop-drop}
 use Rattle.std.proofs.lemmas.Int.{ints}
@@ -33,10 +33,10 @@ pub appending_none : {S : Type 0} (d : ℕ) (row : S → Row d) (n at : ℕ) (ol
 appending_none d row n at old ws s e =
     record {
       size = refl;
-      list = simp (add_zero, append-nil);
+      list = simp (add-zero, append-nil);
       past = refl;
-      starts = rw add_zero s;
-      ends = rw add_zero e;
+      starts = rw add-zero s;
+      ends = rw add-zero e;
     }
 
 -- equal from k on, equal from one place later

@@ -65,8 +65,7 @@ fn in_named_measure(file: &[u8], text: &mut [u8]) -> usize
 }
 
 // Writes the report on the bytes of a file into the text space, and answers how many bytes it wrote; -17 if the space is small.
-#[unsafe(no_mangle)]
-pub extern "C" fn report(file: &[u8], text: &mut [u8]) -> i64
+pub fn report(file: &[u8], text: &mut [u8]) -> i64
     ensures { Reported file.now text.old text.new result }
 {
     if text.len() < PAGE {
