@@ -1,5 +1,5 @@
 -- A row taken k times is the row added k times.
-use Rattle.std.proofs.Common.{◌≡◌, ℕ, zero, suc, ◌+◌, ◌*◌, Bool, ℤ, pos, ◌+ℤ◌, ◌*ℤ◌, sym, refl, ap, ◌∙◌, subst, suc-mul, add_comm}
+use Rattle.std.proofs.Common.{◌≡◌, ℕ, zero, suc, ◌*◌, Bool, ℤ, pos, ◌+ℤ◌, ◌*ℤ◌, sym, refl, ap, ◌∙◌, subst, suc-mul, add_comm}
 use lib.IntN.{zero-*ℤ, suc_ℤ-*ℤ, +ℤ_comm}
 use Rattle.amount.specs.Rows.{Row, zero_row, add_row, times_row, Within, OrderLaws}
 use Rattle.amount.specs.Groups.{times, row_group}

@@ -1,5 +1,5 @@
 -- The limiting turn, event by event.
-use Rattle.std.proofs.Common.{◌≡◌, ℕ, ◌+◌, ◌-◌, ◌<◌, ◌≤◌, Bool, true, false, T, ◌⊎◌, List, Some, None, Option, sym, ◌∙◌, subst, subst₂, ⊎_elim, arith, below_more}
+use Rattle.std.proofs.Common.{◌≡◌, ℕ, ◌+◌, ◌-◌, ◌<◌, ◌≤◌, Bool, true, false, T, List, Some, None, Option, sym, ◌∙◌, subst, subst₂, ⊎_elim, arith, below_more}
 use Rattle.amount.specs.Rows.{Row, times_row, Within, OrderLaws}
 use Rattle.amount.specs.Groups.{Ordered, row_group}
 use Rattle.amount.proofs.Bounds.{within_add, within_neg}

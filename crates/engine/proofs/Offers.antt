@@ -1,5 +1,5 @@
 -- The greatest of what the entries of an event offer it, entry by entry.
-use Rattle.std.proofs.Common.{◌≡◌, ℕ, zero, suc, ◌+◌, ◌<◌, false, T, ◌⊎◌, sym, refl, ap, ◌∙◌, subst, inl, inr, ⊎_elim, arith, below_more}
+use Rattle.std.proofs.Common.{◌≡◌, ℕ, zero, suc, ◌+◌, ◌<◌, false, T, sym, refl, ap, ◌∙◌, subst, inl, inr, ⊎_elim, arith, below_more}
 use Rattle.amount.specs.Groups.{Ordered, times}
 use Rattle.network.proofs.Toolkit
 use Rattle.engine.specs.Tables.{Live}

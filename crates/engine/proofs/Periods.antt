@@ -1,5 +1,5 @@
 -- The period and the departures from the tables.
-use Rattle.std.proofs.Common.{◌≡◌, ℕ, ◌-◌, ◌<◌, ◌≤◌, T, List, length, get_or, refl, ap, ◌∙◌, subst, arith}
+use Rattle.std.proofs.Common.{◌≡◌, ℕ, ◌<◌, ◌≤◌, T, List, length, get_or, refl, ap, ◌∙◌, subst, arith}
 use Rattle.amount.specs.Groups.{Ordered, times}
 use Rattle.network.specs.Walks.{Net, Walk, NoClosed, sum, total, count, weight, Loop, Period}
 use Rattle.network.proofs.Joined.{count_waits}

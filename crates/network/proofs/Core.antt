@@ -1,5 +1,5 @@
 -- Walks shortened, the greatest rows, and what they keep.
-use Rattle.std.proofs.Common.{◌≡◌, ℕ, zero, suc, ◌+◌, ◌<◌, ◌≤◌, T, List, [], ◌∷◌, ◌++◌, length, take, drop, sym, refl, subst, arith, length-append, length-drop, take-append-drop, length-take}
+use Rattle.std.proofs.Common.{◌≡◌, ℕ, zero, suc, ◌<◌, ◌≤◌, T, List, [], ◌∷◌, ◌++◌, length, take, drop, sym, refl, subst, arith, length-append, length-drop, take-append-drop, length-take}
 use native.Mathlib.Decide.{dec_lt}
 use Rattle.amount.specs.Groups.{Ordered}
 use Rattle.network.specs.Walks.{Net, Walk, sum}

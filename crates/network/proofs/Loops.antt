@@ -1,5 +1,5 @@
 -- Walks cut at one of their events, and closed walks walked round and round.
-use Rattle.std.proofs.Common.{◌≡◌, ℕ, zero, suc, ◌+◌, ◌-◌, ◌<◌, ◌≤◌, List, [], ◌∷◌, ◌++◌, length, get_or, take, drop, refl, arith, length-append, length-take}
+use Rattle.std.proofs.Common.{◌≡◌, ℕ, zero, suc, ◌<◌, ◌≤◌, List, [], ◌∷◌, ◌++◌, length, get_or, take, drop, refl, arith, length-append, length-take}
 use Rattle.network.specs.Walks.{Net, Walk}
 use Rattle.network.proofs.Joined.{Joined}
 use Rattle.network.proofs.Walks

@@ -1,5 +1,5 @@
 -- What the laws of an ordered group give: sums, multiples and means.
-use Rattle.std.proofs.Common.{◌≡◌, ℕ, zero, suc, ◌+◌, ◌*◌, ◌≤◌, T, ◌⊎◌, sym, refl, ap, ◌∙◌, subst, ⊎_elim, suc-mul, mul_comm, suc-add, zero-add, zero-mul, arith}
+use Rattle.std.proofs.Common.{◌≡◌, ℕ, zero, suc, ◌+◌, ◌*◌, ◌≤◌, T, sym, refl, ap, ◌∙◌, subst, ⊎_elim, suc-mul, mul_comm, suc-add, zero-add, zero-mul, arith}
 use Rattle.amount.specs.Groups.{Ordered, times}
 
 module _ {A : Type 0} (G : Ordered A) where

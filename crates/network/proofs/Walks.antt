@@ -1,5 +1,5 @@
 -- Walks joined and cut, what they come to, and rows that keep the waits.
-use Rattle.std.proofs.Common.{◌≡◌, ℕ, ◌+◌, ◌<◌, T, List, [], ◌∷◌, ◌++◌, sym, refl, ap, ◌∙◌, subst}
+use Rattle.std.proofs.Common.{◌≡◌, ℕ, ◌<◌, T, List, [], ◌∷◌, ◌++◌, sym, refl, ap, ◌∙◌, subst}
 use Rattle.amount.specs.Groups.{Ordered, times}
 use Rattle.network.specs.Walks.{Net, Walk, sum, total, count, weight, MeanLe}
 use Rattle.network.proofs.Joined.{Joined, count_none, count_more}

@@ -1,5 +1,5 @@
 -- What a network means: how many events it has, and its list of waits.
-use Rattle.std.specs.Prelude.{ℕ, ◌<◌, ◌≤◌, List, [], ◌∷◌, length, ℤ, pos, neg_ℤ, ◌≤ℤ◌, slice_index_or}
+use Rattle.std.specs.Prelude.{ℕ, ◌<◌, List, [], ◌∷◌, length, ℤ, pos, neg_ℤ, ◌≤ℤ◌, slice_index_or}
 use Rattle.amount.specs.Rows.{Row, places}
 use Rattle.amount.specs.Spans.{span}
 use Rattle.network.specs.declared.Wait.{Wait}
