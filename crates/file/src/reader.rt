@@ -1,7 +1,7 @@
 // The reader: it goes through the words of a file from the front, and stops at the first word at fault.
 ghost use Rattle.std.specs.Prelude.{◌≡◌, ◌+◌, ◌<◌, true, false, MatchResult};
 ghost use Rattle.file.specs.Words.{kind_of, words_of};
-ghost use Rattle.file.specs.Words.{lower as lowerOf};
+ghost use Rattle.file.specs.Words.{lower as lower_of};
 ghost use Rattle.file.specs.Layout.{heading, item, place, fault_in};
 ghost use Rattle.file.specs.Faults.{told};
 ghost use Rattle.file.specs.Opening.{Opens, Refused};
@@ -61,7 +61,7 @@ pub(crate) enum State {
 // The event count of a heading.
 fn read_heading(w: u32, at: usize, measure: u32, events: u32) -> Result<u32, FileFault>
     requires { kind_of w ≡ 1 }
-    ensures { MatchResult result (λ n. (fault_in measure events heading w ≡ 0) × (n ≡ lowerOf w)) (λ f. AtWord f (fault_in measure events heading w) at) }
+    ensures { MatchResult result (λ n. (fault_in measure events heading w ≡ 0) × (n ≡ lower_of w)) (λ f. AtWord f (fault_in measure events heading w) at) }
 {
     if words::middle(w) != 0 {
         return Err(FileFault::Smudged(at));

@@ -1,7 +1,7 @@
 // The words of a file, and what the bits of a word say.
 ghost use Rattle.std.specs.Prelude.{◌≡◌, ◌+◌, ◌*◌, ◌≤◌, length};
 ghost use Rattle.file.specs.Words.{words_of, word_no, place_of};
-ghost use Rattle.file.specs.Words.{lower as lowerOf, middle as middle_of, upper as upperOf};
+ghost use Rattle.file.specs.Words.{lower as lower_of, middle as middle_of, upper as upper_of};
 
 // How many bytes make a word.
 pub(crate) const WORD: usize = 4;
@@ -20,7 +20,7 @@ pub(crate) fn word(bytes: &[u8], k: usize) -> u32
 
 // Bits 11-0.
 pub(crate) fn lower(w: u32) -> u32
-    ensures { result ≡ lowerOf w }
+    ensures { result ≡ lower_of w }
 {
     w & 0xfff
 }
@@ -34,7 +34,7 @@ pub(crate) fn middle(w: u32) -> u32
 
 // Bits 27-24.
 pub(crate) fn upper(w: u32) -> u32
-    ensures { result ≡ upperOf w }
+    ensures { result ≡ upper_of w }
 {
     (w >> 24) & 0xf
 }

@@ -15,7 +15,7 @@ use Rattle.engine.specs.declared.EngineFault.TheVariants.{NoLoop}
 use Rattle.file.specs.Words.{words_of}
 use Rattle.file.specs.Contents.{contents, named_measure}
 use Rattle.file.specs.Opening.{Opens, Refused}
-use Rattle.file.specs.Faults.{told as fileTold}
+use Rattle.file.specs.Faults.{told as file_told}
 use Rattle.file.specs.declared.fault.FileFault.{FileFault}
 use Rattle.report.specs.declared.verdict.Verdict.{Verdict}
 use Rattle.report.specs.Verdicts.{Judged, Modest}
@@ -61,7 +61,7 @@ module _ {d : ℕ} {le : Row d → Row d → Bool} (order : OrderLaws d le) wher
   -- the text of the report on the bytes of a file, opened for the measure of this number: the file's refusal, or the report on
   -- what its words spell
   pub data OpenedText (number : ℕ) (bytes t : List ℕ) : Type 0 where
-    refused : (f : FileFault) → Refused number d bytes (fileTold f).number (fileTold f).place → t ≡ refusal_line (fileTold f) → OpenedText number bytes t
+    refused : (f : FileFault) → Refused number d bytes (file_told f).number (file_told f).place → t ≡ refusal_line (file_told f) → OpenedText number bytes t
     opened : Opens number d bytes → NetworkText number (contents d (words_of bytes)).events (contents d (words_of bytes)).waits (contents d (words_of bytes)).claim t → OpenedText number bytes t
 
 -- the text of the report on the bytes of a file in measure 1, 2 or 3; in any other as in measure 1

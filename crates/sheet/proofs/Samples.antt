@@ -9,10 +9,10 @@ use Rattle.network.specs.Walks.{count, NoClosed}
 use Rattle.network.specs.Walks.{Period as IsPeriod}
 use Rattle.network.proofs.Joined.{joined}
 use Rattle.engine.specs.declared.EngineFault.TheVariants.{ShortTable, NoLoop}
-use Rattle.engine.specs.Faults.{told as engineTold}
+use Rattle.engine.specs.Faults.{told as engine_told}
 use Rattle.report.specs.declared.verdict.Verdict.{Verdict}
 use Rattle.report.specs.Verdicts.{Judged}
-use Rattle.plan.specs.Faults.{told as planTold}
+use Rattle.plan.specs.Faults.{told as plan_told}
 use Rattle.plan.specs.Plans.{opened, events_of}
 use Rattle.sheet.specs.Sheet.{Drawn, one, size, row_by, Solving, ShownAs, RefusedAs, JudgedAs, group_of, graph_of, row_in, rows_in, Sample, Holds, solved, loopless, claimed, headway, called, refused, sec, samples, All, Sheet}
 use Rattle.sheet.proofs.Certificates.{Fits, sound, Proves, proven, same_mean, same_departures, none_closed}
@@ -44,13 +44,13 @@ abbrev Passes : Sample → Evidence → Type 0
 Passes (solved k t c es ds) (walks ws) = Solves k (record { total = t; count = c; loop = es; departures = ds; walks = ws })
 Passes (solved k t c es ds) (against s) = ⊥
 Passes (solved k t c es ds) none = ⊥
-Passes (loopless k f) e = T (Fits k.events k.waits) × ((graph_of k).waits ≡ 0) × (engineTold (NoLoop k.events) ≡ f)
+Passes (loopless k f) e = T (Fits k.events k.waits) × ((graph_of k).waits ≡ 0) × (engine_told (NoLoop k.events) ≡ f)
 Passes (claimed k t c v) (walks ws) = ⊥
 Passes (claimed k t c v) (against s) = Solves k s × Judged (group_of k) (row_in k s.total) s.count (row_in k t) c v
 Passes (claimed k t c v) none = ⊥
 Passes (headway t c h) e = T (lt_z (pos c *ℤ (h +ℤ negsuc 0)) t) × T (le_z t (pos c *ℤ h))
 Passes (called n k calls expected) e = T (all_edits calls) × (replies 1 (events_of n) k [] calls ≡ expected)
-Passes (refused f n k) e = planTold f ≡ record { number = n; layer = Plan; place = k }
+Passes (refused f n k) e = plan_told f ≡ record { number = n; layer = Plan; place = k }
 
 module _ (k : Drawn) (s : Shown) (t : Solves k s) where
   known : IsPeriod (group_of k) (graph_of k) (row_in k s.total) s.count s.loop (rows_in k s.departures)
@@ -72,10 +72,10 @@ module _ (k : Drawn) (s : Shown) (t : Solves k s) where
   verdict_answered c b v judged (Err (NoLoop j)) old new enough h = h.none _ _ known.loop.closed
 
 -- where nothing is closed, solving refuses
-refusal_answered : (k : Drawn) (f : Refusal) → NoClosed (graph_of k) → engineTold (NoLoop k.events) ≡ f → Solving k (RefusedAs k f)
+refusal_answered : (k : Drawn) (f : Refusal) → NoClosed (graph_of k) → engine_told (NoLoop k.events) ≡ f → Solving k (RefusedAs k f)
 refusal_answered k f unclosed is (Ok p) old new enough h = unclosed _ _ h.shown.period.loop.closed
 refusal_answered k f unclosed is (Err (ShortTable j)) old new enough h = absurd (h.short enough)
-refusal_answered k f unclosed is (Err (NoLoop j)) old new enough h = ap (λ i. engineTold (NoLoop i)) h.place ∙ is
+refusal_answered k f unclosed is (Err (NoLoop j)) old new enough h = ap (λ i. engine_told (NoLoop i)) h.place ∙ is
 
 -- a sample that passes is right
 holds : (s : Sample) (e : Evidence) → Passes s e → Holds s

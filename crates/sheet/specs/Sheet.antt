@@ -17,7 +17,7 @@ use Rattle.network.specs.Walks.{Net, net, NoClosed}
 use Rattle.network.specs.Walks.{Period as IsPeriod}
 use Rattle.engine.specs.declared.EngineFault.{EngineFault}
 use Rattle.engine.specs.Solved.{Memory, Enough, row_at, Solved}
-use Rattle.engine.specs.Faults.{told as engineTold}
+use Rattle.engine.specs.Faults.{told as engine_told}
 use Rattle.report.specs.declared.verdict.Verdict.{Verdict}
 use Rattle.report.specs.declared.verdict.Verdict.TheVariants.{Right, Short, Long}
 use Rattle.report.specs.Verdicts.{Judged}
@@ -26,7 +26,7 @@ use Rattle.plan.specs.declared.fault.PlanFault.{PlanFault}
 use Rattle.plan.specs.declared.fault.PlanFault.TheVariants.{UnknownEvent, OutOfSpan, Full}
 use Rattle.plan.specs.declared.calls.Answer.{Answer}
 use Rattle.plan.specs.declared.calls.Answer.TheVariants.{Number, Done, Declined}
-use Rattle.plan.specs.Faults.{told as planTold}
+use Rattle.plan.specs.Faults.{told as plan_told}
 use Rattle.plan.specs.Plans.{opened}
 use Rattle.plan.specs.Plans.{Plan as PlainPlan}
 use Rattle.plan.specs.Calls.{PlainCall, put, retime, drop_wait}
@@ -100,7 +100,7 @@ ShownAs k t c ds (Err e) new = ⊥
 -- this refusal
 abbrev pub RefusedAs : (k : Drawn) → Refusal → Result (Period (amount_of k.scale)) EngineFault → Memory (amount_of k.scale) → Type 0
 RefusedAs k f (Ok p) new = ⊥
-RefusedAs k f (Err e) new = engineTold e ≡ f
+RefusedAs k f (Err e) new = engine_told e ≡ f
 
 -- a period that gives the claim t over c this verdict and no other
 abbrev pub JudgedAs : (k : Drawn) → List ℤ → ℕ → Verdict → Result (Period (amount_of k.scale)) EngineFault → Memory (amount_of k.scale) → Type 0
@@ -138,7 +138,7 @@ Holds (headway t c h) = Headway t c h × ((k : ℤ) → Headway t c k → k ≡ 
 Holds (called n k calls expected) =
     (m : List (Wait SpanSeconds)) (answers : List (Answer Seconds)) (q : PlainPlan SpanSeconds) → length m ≡ k
     → History 1 (row_by one) (lex_laws 1) (opened n m) calls answers q → answers ≡ expected
-Holds (refused e n k) = planTold e ≡ record { number = n; layer = Plan; place = k }
+Holds (refused e n k) = plan_told e ≡ record { number = n; layer = Plan; place = k }
 
 -- a wait from an event to an event, with the places of its amount
 abbrev pub wait : ℕ → ℕ → List ℤ → PlainWait
