@@ -67,5 +67,8 @@ pub lex_laws : (d : ℕ) → OrderLaws d (lex_le d)
 lex_laws d = record { total = lex_total d; same = lex_same d; trans = lex_trans d; shift = lex_shift d }
 
 -- an order turned round obeys them too
-pub reverse_laws : (d : ℕ) → OrderLaws d (reverse_le d)
-reverse_laws d = record { total = λ r s. lex_total d s r; same = λ r s h k. lex_same d r s k h; trans = λ r s t h k. lex_trans d t s r k h; shift = λ r s t. lex_shift d s r t }
+pub turned : {d : ℕ} {le : Row d → Row d → Bool} → OrderLaws d le → OrderLaws d (λ r s. le s r)
+turned o = record { total = λ r s. o.total s r; same = λ r s h k. o.same r s k h; trans = λ r s t h k. o.trans t s r k h; shift = λ r s t. o.shift s r t }
+
+abbrev pub reverse_laws : (d : ℕ) → OrderLaws d (reverse_le d)
+reverse_laws d = turned (lex_laws d)

@@ -1,70 +1,80 @@
-// Measures that a supplier's file can hold.
-ghost use Rattle.std.specs.Prelude.{◌≡◌, ℕ, ◌≤◌, length};
+//! Measures that a supplier's file can hold.
+ghost use Rattle.std.specs.Prelude.{◌≡◌, ℕ, ◌≤◌, length, refl};
+ghost use Rattle.amount.specs.Measures.{Numbered};
 ghost use Rattle.amount.specs.Rows.{places as listed};
 ghost use Rattle.std.proofs.Common.{rules};
 
 use crate::measure::Measure;
-use crate::reversed_seconds::ReversedSeconds;
+use crate::reversed::{Reversed, ReversedSeconds};
 use crate::seconds::Seconds;
 use crate::seconds_metres::SecondsMetres;
+use std::cmp::Reverse;
 
+/// The most places that an amount's row has.
+pub const MOST_PLACES: usize = 4;
+
+/// A measure with a number of its own, 1 to 3, in a file's heading; a file holds an amount as the places of its row.
 pub trait Filed: Measure {
-    // the measure's number in a file
-    ghost number: { ℕ };
+    /// The measure's number in a file.
+    const NUMBER: u32;
 
-    fn file_number() -> u32
-        ensures { result ≡ number };
+    ghost NUMBER: { ℕ };
 
-    fn place_count() -> usize
-        ensures { result ≡ Self.Measure.places };
+    /// How many places an amount's row has.
+    const PLACES: usize;
 
-    // The amount that stands for the row of these places.
+    ghost PLACES: { ℕ };
+
+    /// The amount that stands for the row of these places.
     fn from_places(places: &[i64]) -> Self
-        requires { length places.now ≡ Self.Measure.places }
-        ensures { listed Self.Measure.places (Self.Measure.row result) ≡ places.now };
+        requires { length places.now ≡ Self.scale.places }
+        ensures { listed Self.scale.places (Self.scale.row result) ≡ places.now };
 
-    // Writes the places of this amount's row.
+    /// Writes the places of this amount's row.
     fn to_places(self, places: &mut [i64])
-        requires { length places.old ≡ Self.Measure.places }
-        ensures { places.new ≡ listed Self.Measure.places (Self.Measure.row self) };
+        requires { length places.old ≡ Self.scale.places }
+        ensures { places.new ≡ listed Self.scale.places (Self.scale.row self) };
 
-    ghost known: { (1 ≤ number) × (number ≤ 3) };
+    // what the two constants owe
+    ghost placed: { PLACES ≡ Self.scale.places };
+
+    ghost known: { (1 ≤ NUMBER) × (NUMBER ≤ 3) };
 }
 
 impl Filed for Seconds {
-    ghost number = { 1 };
+    const NUMBER: u32 = 1;
+
+    ghost NUMBER = { 1 };
+
+    const PLACES: usize = 1;
+
+    ghost PLACES = { 1 };
+
+    ghost placed = { refl };
 
     ghost known = { Prim.search rules };
-
-    fn file_number() -> u32 {
-        1
-    }
-
-    fn place_count() -> usize {
-        1
-    }
 
     fn from_places(places: &[i64]) -> Seconds {
         Seconds { seconds: places[0] }
     }
 
     fn to_places(self, places: &mut [i64]) {
-        places[0] = self.seconds;
+        places.copy_from_slice(&[self.seconds]);
     }
 }
 
 impl Filed for SecondsMetres {
-    ghost number = { 2 };
+    const NUMBER: u32 = 2;
+
+    ghost NUMBER = { 2 };
+
+    const PLACES: usize = 2;
+
+    ghost PLACES = { 2 };
+
+    ghost placed = { refl };
 
     ghost known = { Prim.search rules };
-
-    fn file_number() -> u32 {
-        2
-    }
-
-    fn place_count() -> usize {
-        2
-    }
 
     fn from_places(places: &[i64]) -> SecondsMetres {
         SecondsMetres {
@@ -74,29 +84,56 @@ impl Filed for SecondsMetres {
     }
 
     fn to_places(self, places: &mut [i64]) {
-        places[0] = self.seconds;
-        places[1] = self.metres;
+        places.copy_from_slice(&[self.seconds, self.metres]);
     }
 }
 
 impl Filed for ReversedSeconds {
-    ghost number = { 3 };
+    const NUMBER: u32 = 3;
+
+    ghost NUMBER = { 3 };
+
+    const PLACES: usize = 1;
+
+    ghost PLACES = { 1 };
+
+    ghost placed = { refl };
 
     ghost known = { Prim.search rules };
 
-    fn file_number() -> u32 {
-        3
-    }
-
-    fn place_count() -> usize {
-        1
-    }
-
     fn from_places(places: &[i64]) -> ReversedSeconds {
-        ReversedSeconds { seconds: places[0] }
+        Reversed(Reverse(Seconds::from_places(places)))
     }
 
     fn to_places(self, places: &mut [i64]) {
-        places[0] = self.seconds;
+        self.0.0.to_places(places);
+    }
+}
+
+/// The measures that a file's heading can name.
+#[derive(Clone, Copy, PartialEq, Eq, Debug)]
+pub enum FiledMeasure {
+    Seconds,
+    SecondsMetres,
+    ReversedSeconds,
+}
+
+/// No measure has this number.
+#[derive(Clone, Copy, PartialEq, Eq, Debug)]
+pub struct UnknownMeasure(pub u32);
+
+/// The measure of a number: 1, 2 and 3 in this order.
+impl TryFrom<u32> for FiledMeasure {
+    type Error = UnknownMeasure;
+
+    ghost try_from_gives = { Numbered };
+
+    fn try_from(number: u32) -> Result<FiledMeasure, UnknownMeasure> {
+        match number {
+            Seconds::NUMBER => Ok(FiledMeasure::Seconds),
+            SecondsMetres::NUMBER => Ok(FiledMeasure::SecondsMetres),
+            ReversedSeconds::NUMBER => Ok(FiledMeasure::ReversedSeconds),
+            _ => Err(UnknownMeasure(number)),
+        }
     }
 }

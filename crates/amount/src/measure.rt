@@ -1,60 +1,52 @@
-// A measure: amounts that stand for rows of whole numbers, added place by place, in a total order.
-ghost use Rattle.std.specs.Prelude.{◌≡◌, ℕ, ◌≤◌, Bool};
-ghost use Rattle.amount.specs.Rows.{Row, zero_row, add_row, neg_row, times_row, Within, OrderLaws};
-ghost use Rattle.amount.specs.Spans.{Narrowed, span};
+//! A measure: amounts that stand for rows of whole numbers, added place by place, in a total order.
+ghost use Rattle.std.specs.Prelude.{◌≡◌, pos, neg_ℤ, ◌≤ℤ◌, Decides};
+ghost use Rattle.amount.specs.Rows.{zero_row};
+ghost use Rattle.amount.specs.Scales.{Scale, Adds, Subtracts, Opposes, Multiplies, Compares};
+ghost use Rattle.amount.specs.Spans.{span, first_outside};
 
-// How far from zero a place of a wait's amount may lie.
+use std::ops::{Add, Mul, Neg, Sub};
+
+/// How far from zero a place of a wait's amount may lie.
 pub const SPAN: i64 = 86_400;
 
-pub trait Measure: Copy {
-    // an amount that lies in the span
-    type Spanned: Copy;
+/// Whether a place lies in the span.
+pub(crate) fn in_span(place: i64) -> bool
+    ensures { Decides result ((neg_ℤ (pos span) ≤ℤ place) × (place ≤ℤ pos span)) }
+{
+    (-SPAN..=SPAN).contains(&place)
+}
 
-    // how many places a row has
-    ghost places: { ℕ };
+/// Amounts that have a meaning.
+pub trait Scaled {
+    // the row that each amount stands for, and the order of rows
+    ghost scale: { Scale Self };
+}
 
-    // the row that an amount stands for
-    ghost row: { Self → Row places };
-
-    // whether one row is at most another
-    ghost at_most: { Row places → Row places → Bool };
-
-    // the order's four laws
-    ghost order: { OrderLaws places at_most };
-
-    // the amount that one in the span is
-    ghost wide: { Self.Spanned → Self };
-
-    // what lies in the span has every place within it
-    ghost near: { (s : Self.Spanned) → Within places span (row (wide s)) };
-
+/// A measure: amounts are added, subtracted, turned to their opposite and taken 0 to 1,000 times, exactly where all places of
+/// the result lie within 10^12 of zero; and their order is that of the rows.
+pub trait Measure: Scaled
+    + Copy
+    + Ord
+    + Add<Output = Self>
+    + Sub<Output = Self>
+    + Neg<Output = Self>
+    + Mul<u32, Output = Self> {
+    /// The amount of the row of zeros.
     fn zero() -> Self
-        ensures { row result ≡ zero_row places };
+        ensures { Self.scale.row result ≡ zero_row Self.scale.places };
 
-    fn add(self, other: Self) -> Self
-        requires { Within places 1000000000000 (add_row places (row self) (row other)) }
-        ensures { row result ≡ add_row places (row self) (row other) };
+    /// The number, from 0, of the first place that lies outside the span of a wait.
+    fn first_outside(self) -> Option<u32>
+        ensures { result ≡ first_outside Self.scale self };
 
-    fn neg(self) -> Self
-        requires { Within places 1000000000000 (neg_row places (row self)) }
-        ensures { row result ≡ neg_row places (row self) };
+    // what the operators and the order owe
+    ghost adds: { Adds Self.scale Self.can_add Self.add_gives };
 
-    // This row taken k times.
-    fn times(self, k: u32) -> Self
-        requires few { k ≤ 1000 }
-        requires exact { Within places 1000000000000 (times_row places k (row self)) }
-        ensures { row result ≡ times_row places k (row self) };
+    ghost subtracts: { Subtracts Self.scale Self.can_sub Self.sub_gives };
 
-    fn at_most(self, other: Self) -> bool
-        ensures { result ≡ at_most (row self) (row other) };
+    ghost opposes: { Opposes Self.scale Self.can_neg Self.neg_gives };
 
-    // The amount that one in the span is.
-    fn widen(s: Self::Spanned) -> Self
-        ensures { result ≡ wide s };
+    ghost multiplies: { Multiplies Self.scale Self.can_mul Self.mul_gives };
 
-    // This amount if it lies in the span, or else the number of its first place outside.
-    fn narrow(self) -> Result<Self::Spanned, u32>
-        ensures { Narrowed places row wide self result };
-
-    ghost few: { (1 ≤ places) × (places ≤ 4) };
+    ghost compares: { Compares Self.scale Self.cmp };
 }

@@ -1,78 +1,94 @@
-// Measure 1: seconds in the usual order.
-ghost use Rattle.std.specs.Prelude.{pos, neg_ℤ, ◌≤ℤ◌};
-ghost use Rattle.amount.specs.Orders.{lex_le};
-ghost use Rattle.amount.specs.Lawful.{lex_laws};
+//! Measure 1: seconds in the usual order.
+ghost use Rattle.amount.specs.Scales.{CanAdd, CanSub, CanNeg, CanMul, AddGives, SubGives, NegGives, MulGives, adds_so, subtracts_so, opposes_so, multiplies_so};
+ghost use Rattle.amount.specs.Given.{seconds_scale};
 ghost use Rattle.std.proofs.Common.{rules};
 
-use crate::measure::{Measure, SPAN};
+use crate::measure::{Measure, Scaled, in_span};
+use std::ops::{Add, Mul, Neg, Sub};
 
-#[derive(Clone, Copy)]
+/// Whole seconds; the greater number is the greater amount.
+#[derive(Clone, Copy, PartialEq, Eq, PartialOrd, Ord, Debug)]
 pub struct Seconds {
     pub seconds: i64,
 }
 
-// Seconds in the span of a wait.
-#[derive(Clone, Copy)]
-pub struct SpanSeconds {
-    pub(crate) seconds: i64,
-    ghost low: { neg_ℤ (pos 86400) ≤ℤ seconds },
-    ghost high: { seconds ≤ℤ pos 86400 },
+impl Scaled for Seconds {
+    ghost scale = { seconds_scale };
 }
 
-impl Measure for Seconds {
-    type Spanned = SpanSeconds;
+// One type over an array of places would say the operators once, but its places would lose their names.
+impl Add for Seconds {
+    type Output = Seconds;
 
-    ghost places = { 1 };
+    ghost can_add = { CanAdd seconds_scale };
 
-    ghost row = { λ x. (x.seconds, tt) };
-
-    ghost at_most = { lex_le 1 };
-
-    ghost order = { lex_laws 1 };
-
-    ghost wide = { λ s. record { seconds = s.seconds } };
-
-    ghost near = { λ s. (s.low, s.high, tt) };
-
-    ghost few = { Prim.search rules };
-
-    fn zero() -> Seconds {
-        Seconds { seconds: 0 }
-    }
+    ghost add_gives = { AddGives seconds_scale };
 
     fn add(self, other: Seconds) -> Seconds {
         Seconds {
             seconds: self.seconds + other.seconds,
         }
     }
+}
+
+impl Sub for Seconds {
+    type Output = Seconds;
+
+    ghost can_sub = { CanSub seconds_scale };
+
+    ghost sub_gives = { SubGives seconds_scale };
+
+    fn sub(self, other: Seconds) -> Seconds {
+        Seconds {
+            seconds: self.seconds - other.seconds,
+        }
+    }
+}
+
+impl Neg for Seconds {
+    type Output = Seconds;
+
+    ghost can_neg = { CanNeg seconds_scale };
+
+    ghost neg_gives = { NegGives seconds_scale };
 
     fn neg(self) -> Seconds {
         Seconds {
             seconds: -self.seconds,
         }
     }
+}
 
-    fn times(self, k: u32) -> Seconds {
+impl Mul<u32> for Seconds {
+    type Output = Seconds;
+
+    ghost can_mul = { CanMul seconds_scale };
+
+    ghost mul_gives = { MulGives seconds_scale };
+
+    fn mul(self, k: u32) -> Seconds {
         Seconds {
             seconds: self.seconds * k as i64,
         }
     }
+}
 
-    fn at_most(self, other: Seconds) -> bool {
-        self.seconds <= other.seconds
+impl Measure for Seconds {
+    fn zero() -> Seconds {
+        Seconds { seconds: 0 }
     }
 
-    fn widen(s: SpanSeconds) -> Seconds {
-        Seconds { seconds: s.seconds }
+    fn first_outside(self) -> Option<u32> {
+        if in_span(self.seconds) { None } else { Some(0) }
     }
 
-    fn narrow(self) -> Result<SpanSeconds, u32> {
-        if self.seconds < -SPAN || self.seconds > SPAN {
-            Err(0)
-        } else {
-            Ok(SpanSeconds {
-                seconds: self.seconds,
-            })
-        }
-    }
+    ghost adds = { adds_so seconds_scale };
+
+    ghost subtracts = { subtracts_so seconds_scale };
+
+    ghost opposes = { opposes_so seconds_scale };
+
+    ghost multiplies = { multiplies_so seconds_scale };
+
+    ghost compares = { Prim.search rules };
 }

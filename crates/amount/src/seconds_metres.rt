@@ -1,51 +1,29 @@
-// Measure 2: seconds, then metres driven; the metres decide where the seconds are equal.
-ghost use Rattle.std.specs.Prelude.{pos, neg_ℤ, ◌≤ℤ◌};
-ghost use Rattle.amount.specs.Orders.{lex_le};
-ghost use Rattle.amount.specs.Lawful.{lex_laws};
+//! Measure 2: seconds, then metres driven; the metres decide where the seconds are equal.
+ghost use Rattle.amount.specs.Scales.{CanAdd, CanSub, CanNeg, CanMul, AddGives, SubGives, NegGives, MulGives, adds_so, subtracts_so, opposes_so, multiplies_so};
+ghost use Rattle.amount.specs.Given.{seconds_metres_scale};
 ghost use Rattle.std.proofs.Common.{rules};
 
-use crate::measure::{Measure, SPAN};
+use crate::measure::{Measure, Scaled, in_span};
+use std::ops::{Add, Mul, Neg, Sub};
 
-#[derive(Clone, Copy)]
+/// Whole seconds, and whole metres driven.
+#[derive(Clone, Copy, PartialEq, Eq, PartialOrd, Ord, Debug)]
 pub struct SecondsMetres {
     pub seconds: i64,
     pub metres: i64,
 }
 
-// Seconds and metres in the span of a wait.
-#[derive(Clone, Copy)]
-pub struct SpanSecondsMetres {
-    seconds: i64,
-    metres: i64,
-    ghost low: { neg_ℤ (pos 86400) ≤ℤ seconds },
-    ghost high: { seconds ≤ℤ pos 86400 },
-    ghost metres_low: { neg_ℤ (pos 86400) ≤ℤ metres },
-    ghost metres_high: { metres ≤ℤ pos 86400 },
+impl Scaled for SecondsMetres {
+    ghost scale = { seconds_metres_scale };
 }
 
-impl Measure for SecondsMetres {
-    type Spanned = SpanSecondsMetres;
+// One type over an array of places would say the operators once, but its places would lose their names.
+impl Add for SecondsMetres {
+    type Output = SecondsMetres;
 
-    ghost places = { 2 };
+    ghost can_add = { CanAdd seconds_metres_scale };
 
-    ghost row = { λ x. (x.seconds, (x.metres, tt)) };
-
-    ghost at_most = { lex_le 2 };
-
-    ghost order = { lex_laws 2 };
-
-    ghost wide = { λ s. record { seconds = s.seconds; metres = s.metres } };
-
-    ghost near = { λ s. (s.low, s.high, (s.metres_low, s.metres_high, tt)) };
-
-    ghost few = { Prim.search rules };
-
-    fn zero() -> SecondsMetres {
-        SecondsMetres {
-            seconds: 0,
-            metres: 0,
-        }
-    }
+    ghost add_gives = { AddGives seconds_metres_scale };
 
     fn add(self, other: SecondsMetres) -> SecondsMetres {
         SecondsMetres {
@@ -53,6 +31,29 @@ impl Measure for SecondsMetres {
             metres: self.metres + other.metres,
         }
     }
+}
+
+impl Sub for SecondsMetres {
+    type Output = SecondsMetres;
+
+    ghost can_sub = { CanSub seconds_metres_scale };
+
+    ghost sub_gives = { SubGives seconds_metres_scale };
+
+    fn sub(self, other: SecondsMetres) -> SecondsMetres {
+        SecondsMetres {
+            seconds: self.seconds - other.seconds,
+            metres: self.metres - other.metres,
+        }
+    }
+}
+
+impl Neg for SecondsMetres {
+    type Output = SecondsMetres;
+
+    ghost can_neg = { CanNeg seconds_metres_scale };
+
+    ghost neg_gives = { NegGives seconds_metres_scale };
 
     fn neg(self) -> SecondsMetres {
         SecondsMetres {
@@ -60,35 +61,48 @@ impl Measure for SecondsMetres {
             metres: -self.metres,
         }
     }
+}
 
-    fn times(self, k: u32) -> SecondsMetres {
+impl Mul<u32> for SecondsMetres {
+    type Output = SecondsMetres;
+
+    ghost can_mul = { CanMul seconds_metres_scale };
+
+    ghost mul_gives = { MulGives seconds_metres_scale };
+
+    fn mul(self, k: u32) -> SecondsMetres {
         SecondsMetres {
             seconds: self.seconds * k as i64,
             metres: self.metres * k as i64,
         }
     }
+}
 
-    fn at_most(self, other: SecondsMetres) -> bool {
-        self.seconds < other.seconds || self.seconds == other.seconds && self.metres <= other.metres
-    }
-
-    fn widen(s: SpanSecondsMetres) -> SecondsMetres {
+impl Measure for SecondsMetres {
+    fn zero() -> SecondsMetres {
         SecondsMetres {
-            seconds: s.seconds,
-            metres: s.metres,
+            seconds: 0,
+            metres: 0,
         }
     }
 
-    fn narrow(self) -> Result<SpanSecondsMetres, u32> {
-        if self.seconds < -SPAN || self.seconds > SPAN {
-            Err(0)
-        } else if self.metres < -SPAN || self.metres > SPAN {
-            Err(1)
+    fn first_outside(self) -> Option<u32> {
+        if !in_span(self.seconds) {
+            Some(0)
+        } else if !in_span(self.metres) {
+            Some(1)
         } else {
-            Ok(SpanSecondsMetres {
-                seconds: self.seconds,
-                metres: self.metres,
-            })
+            None
         }
     }
+
+    ghost adds = { adds_so seconds_metres_scale };
+
+    ghost subtracts = { subtracts_so seconds_metres_scale };
+
+    ghost opposes = { opposes_so seconds_metres_scale };
+
+    ghost multiplies = { multiplies_so seconds_metres_scale };
+
+    ghost compares = { Prim.search rules };
 }

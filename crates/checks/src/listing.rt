@@ -1,4 +1,6 @@
-// A listing of every loop and every short walk of a small network, written without the engine: by trying all of them.
+//! A listing of every loop and every short walk of a small network, written without the engine: by trying all of them.
+
+use std::ops::{Add, Mul, Sub};
 
 // A wait with up to two places; the second is 0 in measures of one.
 #[derive(Clone, Copy)]
@@ -8,29 +10,39 @@ pub(crate) struct SmallWait {
     pub amount: Pair,
 }
 
-// Two places.
-#[derive(Clone, Copy, PartialEq, Eq, Debug)]
+// Two places; the order of `SecondsMetres` is theirs.
+#[derive(Clone, Copy, PartialEq, Eq, PartialOrd, Ord, Debug, Default)]
 pub(crate) struct Pair {
     pub first: i64,
     pub second: i64,
 }
 
-impl Pair {
-    pub(crate) fn plus(self, other: Pair) -> Pair {
+impl Add for Pair {
+    type Output = Pair;
+
+    fn add(self, other: Pair) -> Pair {
         Pair {
             first: self.first.wrapping_add(other.first),
             second: self.second.wrapping_add(other.second),
         }
     }
+}
 
-    pub(crate) fn minus(self, other: Pair) -> Pair {
+impl Sub for Pair {
+    type Output = Pair;
+
+    fn sub(self, other: Pair) -> Pair {
         Pair {
             first: self.first.wrapping_sub(other.first),
             second: self.second.wrapping_sub(other.second),
         }
     }
+}
 
-    pub(crate) fn taken(self, k: u32) -> Pair {
+impl Mul<u32> for Pair {
+    type Output = Pair;
+
+    fn mul(self, k: u32) -> Pair {
         let k = i64::from(k);
         Pair {
             first: self.first.wrapping_mul(k),
@@ -51,23 +63,31 @@ impl Order {
     pub(crate) fn below(self, a: Pair, b: Pair) -> bool {
         match self {
             Order::Seconds => a.first < b.first,
-            Order::SecondsMetres => a.first < b.first || a.first == b.first && a.second < b.second,
+            Order::SecondsMetres => a < b,
             Order::Reversed => b.first < a.first,
         }
     }
 }
 
 // A total over a count.
-#[derive(Clone, Copy, PartialEq, Eq, Debug)]
+#[derive(Clone, Copy, PartialEq, Eq, Debug, Default)]
 pub(crate) struct Mean {
     pub total: Pair,
     pub count: u32,
 }
 
 impl Mean {
+    // The mean of a walk that goes on by a wait.
+    fn and(self, w: &SmallWait) -> Mean {
+        Mean {
+            total: self.total + w.amount,
+            count: self.count.wrapping_add(1),
+        }
+    }
+
     // Whether this mean is below another, by cross-multiplication.
     pub(crate) fn below(self, other: Mean, order: Order) -> bool {
-        order.below(self.total.taken(other.count), other.total.taken(self.count))
+        order.below(self.total * other.count, other.total * self.count)
     }
 }
 
@@ -80,118 +100,77 @@ struct Path {
     so_far: Mean,
 }
 
-// Tries every way to go on from a path back to its start through events not yet visited and above the start, and keeps
-// the greatest mean; at most `left` waits more.
-fn close_loops(waits: &[SmallWait], order: Order, path: Path, left: u32, best: &mut Option<Mean>) {
-    if left == 0 {
-        return;
-    }
-    for w in waits {
-        if w.start != path.at {
-            continue;
-        }
-        let so_far = Mean {
-            total: path.so_far.total.plus(w.amount),
-            count: path.so_far.count.wrapping_add(1),
-        };
-        if w.end == path.start {
-            keep_greater(order, so_far, best);
-        } else if w.end > path.start && w.end < 32 && path.seen & (1u32 << w.end) == 0 {
-            let longer = Path {
-                start: path.start,
-                at: w.end,
-                seen: path.seen | (1u32 << w.end),
-                so_far,
-            };
-            close_loops(waits, order, longer, left - 1, best);
-        }
-    }
+// A network of a few events, and the order of its measure.
+#[derive(Clone, Copy)]
+pub(crate) struct SmallNetwork<'a> {
+    pub events: u32,
+    pub waits: &'a [SmallWait],
+    pub order: Order,
 }
 
-fn keep_greater(order: Order, mean: Mean, best: &mut Option<Mean>) {
-    match *best {
-        None => *best = Some(mean),
-        Some(held) => {
-            if held.below(mean, order) {
-                *best = Some(mean);
+impl SmallNetwork<'_> {
+    // Tries every way to go on from a path back to its start through events not yet visited and above the start, and keeps
+    // the greatest mean; at most `left` waits more.
+    fn close_loops(self, path: Path, left: u32, best: &mut Option<Mean>) {
+        if left == 0 {
+            return;
+        }
+        for w in self.waits.iter().filter(|w| w.start == path.at) {
+            let so_far = path.so_far.and(w);
+            if w.end == path.start {
+                if best.is_none_or(|held| held.below(so_far, self.order)) {
+                    *best = Some(so_far);
+                }
+            } else if w.end > path.start && w.end < 32 && path.seen & (1u32 << w.end) == 0 {
+                let longer = Path {
+                    start: path.start,
+                    at: w.end,
+                    seen: path.seen | (1u32 << w.end),
+                    so_far,
+                };
+                self.close_loops(longer, left - 1, best);
             }
         }
     }
-}
 
-// The greatest mean of all loops of a network of n events, if there is a loop.
-pub(crate) fn greatest_mean(n: u32, waits: &[SmallWait], order: Order) -> Option<Mean> {
-    let mut best = None;
-    for start in 0..n.min(32) {
-        let path = Path {
-            start,
-            at: start,
-            seen: 1u32 << start,
-            so_far: Mean {
-                total: Pair {
-                    first: 0,
-                    second: 0,
-                },
-                count: 0,
-            },
-        };
-        close_loops(waits, order, path, n.min(32), &mut best);
-    }
-    best
-}
-
-// Follows every walk that goes on from an event for at most `left` waits more, and keeps at each event the greatest of
-// count × total − waits × total of the period.
-fn follow_walks(
-    waits: &[SmallWait],
-    order: Order,
-    period: Mean,
-    at: u32,
-    so_far: Mean,
-    left: u32,
-    latest: &mut [Pair],
-) {
-    let gives = so_far
-        .total
-        .taken(period.count)
-        .minus(period.total.taken(so_far.count));
-    if (at as usize) < latest.len() && order.below(latest[at as usize], gives) {
-        latest[at as usize] = gives;
-    }
-    if left == 0 {
-        return;
-    }
-    for w in waits {
-        if w.start == at {
-            let longer = Mean {
-                total: so_far.total.plus(w.amount),
-                count: so_far.count.wrapping_add(1),
+    // The greatest mean of all loops, if there is a loop.
+    pub(crate) fn greatest_mean(self) -> Option<Mean> {
+        let mut best = None;
+        for start in 0..self.events.min(32) {
+            let path = Path {
+                start,
+                at: start,
+                seen: 1u32 << start,
+                so_far: Mean::default(),
             };
-            follow_walks(waits, order, period, w.end, longer, left - 1, latest);
+            self.close_loops(path, self.events.min(32), &mut best);
+        }
+        best
+    }
+
+    // Follows every walk that goes on from an event for at most `left` waits more, and keeps at each event the greatest of
+    // count × total − waits × total of the period.
+    fn follow_walks(self, period: Mean, at: u32, so_far: Mean, left: u32, latest: &mut [Pair]) {
+        let gives = so_far.total * period.count - period.total * so_far.count;
+        if let Some(held) = latest.get_mut(at as usize) {
+            if self.order.below(*held, gives) {
+                *held = gives;
+            }
+        }
+        if left == 0 {
+            return;
+        }
+        for w in self.waits.iter().filter(|w| w.start == at) {
+            self.follow_walks(period, w.end, so_far.and(w), left - 1, latest);
         }
     }
-}
 
-// What all walks of at most n waits give each event at a period, the walk of no waits giving zero. At the greatest
-// mean longer walks give no more: a walk of more waits turns round somewhere, and no turn gains.
-pub(crate) fn latest_departures(
-    n: u32,
-    waits: &[SmallWait],
-    order: Order,
-    period: Mean,
-    latest: &mut [Pair],
-) {
-    let nothing = Mean {
-        total: Pair {
-            first: 0,
-            second: 0,
-        },
-        count: 0,
-    };
-    for row in latest.iter_mut() {
-        *row = nothing.total;
-    }
-    for v in 0..n {
-        follow_walks(waits, order, period, v, nothing, n, latest);
+    // What all walks of at most as many waits as there are events give each event at a period, the walk of no waits giving
+    // zero. At the greatest mean longer walks give no more: a walk of more waits turns round somewhere, and no turn gains.
+    pub(crate) fn latest_departures(self, period: Mean, latest: &mut [Pair]) {
+        latest.fill(Pair::default());
+        for v in 0..self.events {
+            self.follow_walks(period, v, Mean::default(), self.events, latest);
+        }
     }
 }

@@ -1,6 +1,7 @@
-// Small networks drawn by a linear congruence, so that every run tries the same ones.
+//! Small networks drawn by a linear congruence, so that every run tries the same ones.
 use crate::listing::{Pair, SmallWait};
 
+// The benchmark has its own: a crate for these nine lines is no plainer.
 #[derive(Drop)]
 pub(crate) struct Draw {
     state: u64,

@@ -1,15 +1,15 @@
-// The engine on small networks, against the listing of every loop and every walk.
-use crate::listing::{Mean, Order, Pair, SmallWait, greatest_mean, latest_departures};
+//! The engine on small networks, against the listing of every loop and every walk.
+use crate::listing::{Mean, Order, Pair, SmallNetwork, SmallWait};
 use crate::random::Draw;
 use crate::writing::Writer;
-use amount::filed::Filed;
+use amount::filed::{Filed, MOST_PLACES};
 use amount::measure::Measure;
-use amount::reversed_seconds::ReversedSeconds;
+use amount::reversed::ReversedSeconds;
 use amount::seconds::Seconds;
 use amount::seconds_metres::SecondsMetres;
-use engine::{EngineFault, solve};
+use engine::{EngineFault, Workspace, solve};
 use file::open;
-use network::Network;
+use network::{Network, Period};
 use refusal::{Layer, Refusal};
 use std::alloc::{AllocError, Global};
 use std::process::Abort;
@@ -20,36 +20,73 @@ const MOST_EVENTS: u32 = 7;
 
 const MOST_WAITS: u32 = 11;
 
-const TABLE: usize = 60;
-
+// How many departures and loop numbers it is lent space for: more than it needs.
 const SPACE: usize = 9;
+
+const LENGTHS: Lengths = Lengths {
+    rows: 60,
+    marks: 60,
+    leaves: SPACE,
+    circle: SPACE,
+};
 
 // The places of an amount; the second is 0 in measures of one.
 fn pair_of<X: Filed>(x: X) -> Pair {
-    let d = X::place_count();
-    let mut places = [0i64; 4];
-    x.to_places(&mut places[0..d]);
+    // A local array, cut to the measure's places: an `ArrayVec` would be made of one and cut as well, and is no plainer.
+    let mut places = [0i64; MOST_PLACES];
+    x.to_places(&mut places[..X::PLACES]);
     Pair {
         first: places[0],
-        second: if d > 1 { places[1] } else { 0 },
+        second: places[1],
     }
 }
 
-// So many zero amounts.
-fn zeros<X: Measure>(heap: Global, count: usize) -> Result<Vec<X>, AllocError> {
-    let mut all = Vec::new(heap);
-    for _ in 0..count {
-        all.push(X::zero())?;
+// The lengths of what is lent to the engine.
+#[derive(Clone, Copy)]
+struct Lengths {
+    rows: usize,
+    marks: usize,
+    leaves: usize,
+    circle: usize,
+}
+
+// Memory of these lengths, with zero rows and numbers that no network has: a `Space` is neither longer nor shorter than it
+// need be.
+#[derive(Drop)]
+struct Lent<X> {
+    rows: Vec<X>,
+    marks: Vec<u32>,
+    leaves: Vec<X>,
+    circle: Vec<u32>,
+}
+
+impl<X: Measure> Lent<X> {
+    fn new(heap: Global, lengths: Lengths) -> Result<Lent<X>, AllocError> {
+        Ok(Lent {
+            rows: vec![in heap; X::zero(); lengths.rows]?,
+            marks: vec![in heap; 77u32; lengths.marks]?,
+            leaves: vec![in heap; X::zero(); lengths.leaves]?,
+            circle: vec![in heap; 77u32; lengths.circle]?,
+        })
     }
-    Ok(all)
+
+    fn solve<N: Network<X>>(&mut self, net: &N) -> Result<Period<X>, EngineFault> {
+        let mut space = Workspace {
+            rows: self.rows.as_mut_slice(),
+            marks: self.marks.as_mut_slice(),
+            leaves: self.leaves.as_mut_slice(),
+            circle: self.circle.as_mut_slice(),
+        };
+        solve(net, &mut space)
+    }
 }
 
 // The bytes of a file with these waits and no claim.
 fn spelled<X: Filed>(heap: Global, n: u32, waits: &[SmallWait]) -> Result<Writer, Fail> {
     let mut writer = Writer::new(heap);
-    writer.heading(X::file_number(), n)?;
+    writer.heading(X::NUMBER, n)?;
     for w in waits {
-        writer.wait(*w, X::place_count())?;
+        writer.wait(*w, X::PLACES)?;
     }
     writer.closing()?;
     Ok(writer)
@@ -63,10 +100,7 @@ fn check_loop(
     circle: &[u32],
 ) -> Result<(), Fail> {
     assert!(rt; shown.count as usize <= circle.len());
-    let mut total = Pair {
-        first: 0,
-        second: 0,
-    };
+    let mut total = Pair::default();
     let mut seen = 0u32;
     let mut lowest = None;
     let mut at = None;
@@ -74,19 +108,13 @@ fn check_loop(
         let Some(w) = waits.get(*e as usize) else {
             return Err(Fail::new("a wait that is not there"));
         };
-        match lowest {
-            None => {
-                lowest = Some(w.start);
-            }
-            Some(low) => assert!(rt; low < w.start),
-        }
-        if let Some(there) = at {
-            assert!(rt; there == w.start);
-        }
+        assert!(rt; lowest.is_none_or(|low| low < w.start));
+        assert!(rt; at.is_none_or(|there| there == w.start));
+        lowest = lowest.or(Some(w.start));
         assert!(rt; w.start < 32);
         assert!(rt; seen & (1u32 << w.start) == 0);
         seen |= 1u32 << w.start;
-        total = total.plus(w.amount);
+        total = total + w.amount;
         at = Some(w.end);
     }
     assert!(rt; at == lowest);
@@ -97,81 +125,49 @@ fn check_loop(
 // The departures shown are what the walks give, and what lies past them is as it was.
 fn check_departures<X: Filed>(
     rt: &impl Abort,
-    n: u32,
-    waits: &[SmallWait],
-    order: Order,
+    network: SmallNetwork<'_>,
     shown: Mean,
     leaves: &[X],
-    past: Pair,
-) -> Result<(), Fail> {
-    let mut latest = [Pair {
-        first: 0,
-        second: 0,
-    }; MOST_EVENTS as usize];
-    latest_departures(n, waits, order, shown, &mut latest);
-    for (v, x) in leaves.iter().enumerate() {
-        if v < n as usize {
-            let Some(given) = latest.get(v) else {
-                return Err(Fail::new("too many events"));
-            };
-            assert_eq!(rt; pair_of(*x), *given);
-        } else {
-            assert_eq!(rt; pair_of(*x), past);
-        }
+) {
+    let mut latest = [Pair::default(); SPACE];
+    network.latest_departures(shown, &mut latest[..MOST_EVENTS as usize]);
+    for (given, x) in latest.iter().zip(leaves.iter()) {
+        assert_eq!(rt; pair_of(*x), *given);
     }
-    Ok(())
 }
 
 // One network: the engine and the listing say the same.
 fn check_network<X: Filed>(
     rt: &impl Abort,
     heap: Global,
-    order: Order,
-    n: u32,
-    waits: &[SmallWait],
+    network: SmallNetwork<'_>,
 ) -> Result<(), Fail> {
+    let n = network.events;
+    let waits = network.waits;
     let writer = spelled::<X>(heap, n, waits)?;
     let Ok(opened) = open::<X>(writer.bytes()) else {
         return Err(Fail::new("the file does not open"));
     };
-    let mut rows = zeros::<X>(heap, TABLE)?;
-    let mut marks = vec![in heap; 77u32; TABLE]?;
-    let mut leaves = zeros::<X>(heap, SPACE)?;
-    let mut circle = vec![in heap; 77u32; SPACE]?;
-    match solve(
-        &opened,
-        rows.as_mut_slice(),
-        marks.as_mut_slice(),
-        leaves.as_mut_slice(),
-        circle.as_mut_slice(),
-    ) {
+    let mut lent = Lent::<X>::new(heap, LENGTHS)?;
+    match lent.solve(&opened) {
         Ok(period) => {
             let shown = Mean {
                 total: pair_of(period.total),
                 count: period.count,
             };
-            let Some(greatest) = greatest_mean(n, waits, order) else {
+            let Some(greatest) = network.greatest_mean() else {
                 return Err(Fail::new("a loop where there is none"));
             };
-            assert!(rt; !shown.below(greatest, order));
-            assert!(rt; !greatest.below(shown, order));
-            check_loop(rt, waits, shown, circle.as_slice())?;
-            check_departures(
-                rt,
-                n,
-                waits,
-                order,
-                shown,
-                leaves.as_slice(),
-                Pair {
-                    first: 0,
-                    second: 0,
-                },
-            )
+            assert!(rt; !shown.below(greatest, network.order));
+            assert!(rt; !greatest.below(shown, network.order));
+            check_loop(rt, waits, shown, lent.circle.as_slice())?;
+            assert_eq!(rt; lent.leaves.len(), SPACE);
+            check_departures(rt, network, shown, lent.leaves.as_slice());
+            Ok(())
         }
         Err(EngineFault::NoLoop(place)) => {
             assert!(rt; place == n);
-            assert!(rt; greatest_mean(n, waits, order).is_none());
+            assert!(rt; network.greatest_mean().is_none());
             Ok(())
         }
         Err(EngineFault::ShortTable(_)) => Err(Fail::new("enough was lent")),
@@ -192,82 +188,54 @@ fn check_many<X: Filed>(
         let mut waits = Vec::new(heap);
         for _ in 0..draw.below(MOST_WAITS + 1) {
             let mut w = draw.wait(n);
-            if X::place_count() == 1 {
+            if X::PLACES == 1 {
                 w.amount.second = 0;
             }
             waits.push(w)?;
         }
-        check_network::<X>(rt, heap, order, n, waits.as_slice())?;
+        let network = SmallNetwork {
+            events: n,
+            waits: waits.as_slice(),
+            order,
+        };
+        check_network::<X>(rt, heap, network)?;
     }
     Ok(())
 }
 
 // Why the bytes do not open, if they do not.
 fn opening_refusal<X: Filed>(bytes: &[u8]) -> Option<Refusal> {
-    match open::<X>(bytes) {
-        Ok(_) => None,
-        Err(fault) => Some(fault.refusal()),
-    }
+    open::<X>(bytes).err().map(Refusal::from)
 }
 
 // The bytes of a file of one event and so many equal waits.
 fn repeated(heap: Global, count: u32) -> Result<Writer, Fail> {
     let mut writer = Writer::new(heap);
     writer.heading(1, 1)?;
-    for _ in 0..count {
-        let amount = Pair {
+    let wait = SmallWait {
+        start: 0,
+        end: 0,
+        amount: Pair {
             first: 7,
             second: 0,
-        };
-        writer.wait(
-            SmallWait {
-                start: 0,
-                end: 0,
-                amount,
-            },
-            1,
-        )?;
+        },
+    };
+    for _ in 0..count {
+        writer.wait(wait, 1)?;
     }
     writer.closing()?;
     Ok(writer)
 }
 
-// Solves one event with one wait on slices of these lengths.
-fn solved_with(
-    heap: Global,
-    rows: usize,
-    marks: usize,
-    leaves: usize,
-    circle: usize,
-) -> Result<Result<u32, Refusal>, Fail> {
-    solved_generic::<Seconds>(heap, rows, marks, leaves, circle)
-}
-
-fn solved_generic<X: Filed>(
-    heap: Global,
-    rows: usize,
-    marks: usize,
-    leaves: usize,
-    circle: usize,
-) -> Result<Result<u32, Refusal>, Fail> {
+// Solves one event with one wait in memory of these lengths; answers the period's count.
+fn solved_with(heap: Global, lengths: Lengths) -> Result<Result<u32, Refusal>, Fail> {
     let writer = repeated(heap, 1)?;
-    let Ok(opened) = open::<X>(writer.bytes()) else {
+    let Ok(opened) = open::<Seconds>(writer.bytes()) else {
         return Err(Fail::new("the file does not open"));
     };
-    let mut rows = zeros::<X>(heap, rows)?;
-    let mut marks = vec![in heap; 77u32; marks]?;
-    let mut leaves = zeros::<X>(heap, leaves)?;
-    let mut circle = vec![in heap; 77u32; circle]?;
-    match solve(
-        &opened,
-        rows.as_mut_slice(),
-        marks.as_mut_slice(),
-        leaves.as_mut_slice(),
-        circle.as_mut_slice(),
-    ) {
-        Ok(period) => Ok(Ok(period.count)),
-        Err(fault) => Ok(Err(fault.refusal())),
-    }
+    let mut lent = Lent::new(heap, lengths)?;
+    let solved = lent.solve(&opened);
+    Ok(solved.map(|period| period.count).map_err(Refusal::from))
 }
 
 #[test]
@@ -293,11 +261,28 @@ fn slices_too_short_by_one(rt: HostRuntime) -> Result<(), Fail> {
         layer: Layer::Engine,
         place: 1,
     };
-    assert_eq!(rt; solved_with(heap, 2, 2, 1, 1)?, Ok(1));
-    assert_eq!(rt; solved_with(heap, 1, 2, 1, 1)?, Err(short));
-    assert_eq!(rt; solved_with(heap, 2, 1, 1, 1)?, Err(short));
-    assert_eq!(rt; solved_with(heap, 2, 2, 0, 1)?, Err(short));
-    assert_eq!(rt; solved_with(heap, 2, 2, 1, 0)?, Err(short));
+    let enough = Lengths {
+        rows: 2,
+        marks: 2,
+        leaves: 1,
+        circle: 1,
+    };
+    assert_eq!(rt; solved_with(heap, enough)?, Ok(1));
+    let too_short = [
+        Lengths { rows: 1, ..enough },
+        Lengths { marks: 1, ..enough },
+        Lengths {
+            leaves: 0,
+            ..enough
+        },
+        Lengths {
+            circle: 0,
+            ..enough
+        },
+    ];
+    for lengths in too_short {
+        assert_eq!(rt; solved_with(heap, lengths)?, Err(short));
+    }
     Ok(())
 }
 

@@ -1,4 +1,4 @@
-// Files written word by word.
+//! Files written word by word.
 use crate::listing::{Pair, SmallWait};
 use std::alloc::{AllocError, Global};
 

@@ -40,6 +40,10 @@ module _ {A : Type 0} (N : Net A) (m : ℕ → ℕ → ℕ) where
   pub back_next : (t k x : ℕ) → back N m k x (t + 1) ≡ N.from (pred (m (k - t) (back N m k x t)))
   back_next t k x = back_plus t 1 k x
 
+  -- so from the event y, whose mark names the wait e
+  pub back_from : (t k x y e z : ℕ) → back N m k x t ≡ y → e ≡ pred (m (k - t) y) → z ≡ N.from e → back N m k x (t + 1) ≡ z
+  back_from t k x y e z at wait start = back_next t k x ∙ ap (λ i. N.from (pred (m (k - t) i))) at ∙ sym (start ∙ ap N.from wait)
+
   -- the wait walked back after t others
   pub way_at : (c t k x : ℕ) → t < c → get_or (way N m k x c) (c - 1 - t) 0 ≡ pred (m (k - t) (back N m k x t))
   way_at zero t k x h = absurd (omega arith)

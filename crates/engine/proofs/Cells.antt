@@ -1,9 +1,9 @@
--- Entries of a slice read as what they stand for, and slices written in a part only.
-use Rattle.std.proofs.Common.{◌≡◌, ℕ, ◌+◌, ◌-◌, ◌<◌, ◌≤◌, ◌≢◌, List, map, length, get_or, drop, set, sym, refl, ap, ◌∙◌, arith, get_or-set_other, get_or-take, get_or-set_same, drop-drop, drop-set-lt}
+-- Entries of a slice read as what they stand for, and a slice that was written in a part.
+use Rattle.std.proofs.Common.{◌≡◌, ℕ, ◌+◌, ◌-◌, ◌<◌, ◌≤◌, ◌≢◌, List, ◌++◌, map, length, get_or, take, drop, set, sym, ap, ◌∙◌, arith, get_or-set_other, get_or-set_same}
 use lib.ListN.{length-map}
-use lib.Seq.{take-set-le}
-use Rattle.std.proofs.lemmas.List.{get_or-map, take-map, map-set}
-use Rattle.engine.specs.Outside.{Outside}
+use Rattle.std.proofs.Math.Seq.{drop-append-add}
+use Rattle.std.proofs.lemmas.List.{get_or-map, map-set, map-append, get_or_append_left, get_or-append-add, get_or-take, get_or-drop}
+use Rattle.std.proofs.lemmas.Slice.{drop-append-drop}
 
 -- entry i of the slice xs, read by f
 abbrev pub cell : {X A : Type 0} → (X → A) → A → List X → ℕ → A
@@ -21,32 +21,32 @@ module _ {X A : Type 0} (f : X → A) (z : A) where
   pub cell_other : (xs : List X) (i j : ℕ) (y : X) → j ≢ i → cell f z (set xs i y) j ≡ cell f z xs j
   cell_other xs i j y h = ap (λ (ys : List A). get_or ys j z) (map-set f xs i y) ∙ get_or-set_other (map f xs) i j (f y) z h
 
-  -- one before the part that was written
-  pub cell_front : {lo hi : ℕ} {xs ys : List X} → Outside lo hi xs ys → (i : ℕ) → i < lo → cell f z ys i ≡ cell f z xs i
-  cell_front {lo = lo} {xs = xs} {ys = ys} o i h =
-      sym (get_or-take lo (map f ys) i z h)
-      ∙ ap (λ (q : List A). get_or q i z) (take-map f lo ys ∙ ap (map f) o.front ∙ sym (take-map f lo xs))
-      ∙ get_or-take lo (map f xs) i z h
+  -- one of the front of a slice
+  pub cell_left : (xs ys : List X) (i : ℕ) → i < length xs → cell f z (xs ++ ys) i ≡ cell f z xs i
+  cell_left xs ys i h = ap (λ (q : List A). get_or q i z) (map-append f xs ys) ∙ get_or_append_left (map f xs) (map f ys) z i (simp length-map h)
 
--- a number before the part that was written
-pub mark_front : {lo hi : ℕ} {xs ys : List ℕ} → Outside lo hi xs ys → (i : ℕ) → i < lo → get_or ys i 0 ≡ get_or xs i 0
-mark_front {lo = lo} {xs = xs} {ys = ys} o i h = sym (get_or-take lo ys i 0 h) ∙ ap (λ (q : List ℕ). get_or q i 0) o.front ∙ get_or-take lo xs i 0 h
+-- a list split in two
+module _ {A : Type 0} (xs front back : List A) (value : xs ≡ front ++ back) where
+  -- an entry of its front, read from place s on
+  pub split_read : (z : A) (s v : ℕ) → s + v < length front → get_or (take (length front - s) (drop s front)) v z ≡ get_or xs (s + v) z
+  split_read z s v h =
+      get_or-take (length front - s) (drop s front) v z (omega arith) ∙ get_or-drop s front v z ∙ sym (get_or_append_left front back z (s + v) h) ∙ ap (λ (q : List A). get_or q (s + v) z) (sym value)
 
-module _ {X : Type 0} where
-  pub outside_none : (lo hi : ℕ) (xs : List X) → Outside lo hi xs xs
-  outside_none lo hi xs = record { front = refl; back = refl }
+  module _ (p : List A) (n : ℕ) where
+    -- the same, its back written in the first n places
+    abbrev pub rewritten : List A
+    rewritten = front ++ (p ++ drop n back)
 
-  -- one write more inside the part
-  pub outside_set : {lo hi : ℕ} {xs ys : List X} (i : ℕ) (y : X) → lo ≤ i → i < hi → Outside lo hi xs ys → Outside lo hi xs (set ys i y)
-  outside_set {lo = lo} {hi = hi} {ys = ys} i y l h o = record { front = take-set-le lo ys i y l ∙ o.front; back = drop-set-lt hi ys i y h ∙ o.back }
+    -- an entry of the front stays, and one in those places is what was written
+    pub split_before : (z : A) (i : ℕ) → i < length front → get_or rewritten i z ≡ get_or xs i z
+    split_before z i h = get_or_append_left front (p ++ drop n back) z i h ∙ sym (get_or_append_left front back z i h) ∙ ap (λ (q : List A). get_or q i z) (sym value)
 
-  -- one part after another
-  pub outside_then : {lo hi : ℕ} {xs ys zs : List X} → Outside lo hi xs ys → Outside lo hi ys zs → Outside lo hi xs zs
-  outside_then o p = record { front = p.front ∙ o.front; back = p.back ∙ o.back }
+    pub split_new : (z : A) (u : ℕ) → u < length p → get_or rewritten (length front + u) z ≡ get_or p u z
+    split_new z u h = get_or-append-add front (p ++ drop n back) u z ∙ get_or_append_left p (drop n back) z u h
 
-  -- what lies past the part stays, further on too
-  pub outside_past : {lo hi : ℕ} {xs ys : List X} (n : ℕ) → hi ≤ n → Outside lo hi xs ys → drop n ys ≡ drop n xs
-  outside_past {hi = hi} {xs = xs} {ys = ys} n h o = sym (further ys) ∙ ap (drop (n - hi)) o.back ∙ further xs
-    where
-      further : (q : List X) → drop (n - hi) (drop hi q) ≡ drop n q
-      further q = drop-drop (n - hi) hi q ∙ ap (λ k. drop k q) (let e : hi + (n - hi) ≡ n = omega arith in e)
+    -- what lies past them stays
+    pub split_past : (h : ℕ) → length p ≡ n → length front + n ≤ h → drop h rewritten ≡ drop h xs
+    split_past h size past = further (p ++ drop n back) ∙ drop-append-drop n back p (h - length front) (omega arith) size ∙ sym (further back) ∙ ap (drop h) (sym value)
+      where
+        further : (q : List A) → drop h (front ++ q) ≡ drop (h - length front) q
+        further q = ap (λ i. drop i (front ++ q)) (let e : h ≡ length front + (h - length front) = omega arith in e) ∙ drop-append-add front q (h - length front)

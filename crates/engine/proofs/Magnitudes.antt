@@ -5,7 +5,7 @@ use Rattle.amount.specs.Rows.{Row, row_of, add_row, Within, OrderLaws}
 use Rattle.amount.specs.Spans.{span}
 use Rattle.amount.specs.Groups.{row_group}
 use Rattle.amount.proofs.Bounds.{within_zero, within_add}
-use Rattle.network.specs.Networks.{PlainWait, AllWithin, Sound}
+use Rattle.network.specs.Networks.{AllWithin, Graph, Sound}
 use Rattle.network.specs.Walks.{Net, net, Walk, total}
 use Rattle.engine.specs.Tables.{Entry, Found, Missing}
 
@@ -16,8 +16,8 @@ within_row (suc d) b [] h = (omega (arith, ints), omega (arith, ints), within_ro
 within_row (suc d) b (x ∷ xs) h = (h.0, h.1, within_row d b xs h.2)
 
 -- every amount of a sound list lies in its span
-pub amount_near : (d n : ℕ) (ws : List PlainWait) → Sound n ws → (e : ℕ) → e < length ws → Within d span ((net d n ws).amount e)
-amount_near d n ws s e h = within_row d span _ (s.spans e h)
+pub amount_near : (d : ℕ) (g : Graph) → Sound g → (e : ℕ) → e < length g.waits → Within d span ((net d g).amount e)
+amount_near d g s e h = within_row d span _ (s.spans e h)
 
 module _ {d : ℕ} {le : Row d → Row d → Bool} (o : OrderLaws d le) (N : Net (Row d)) (b : ℕ) (near : (e : ℕ) → e < N.waits → Within d b (N.amount e)) where
   -- a walk's total lies within b for each of its waits

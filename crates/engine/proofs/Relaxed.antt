@@ -1,6 +1,5 @@
 -- One row of the tables, wait by wait.
-use Rattle.std.proofs.Common.{◌≡◌, ℕ, suc, ◌<◌, T, ◌⊎◌, sym, refl, subst, inl, inr, ⊎_elim, arith}
-use native.Mathlib.Decide.{ℕ_discrete}
+use Rattle.std.proofs.Common.{◌≡◌, ℕ, suc, ◌+◌, ◌<◌, T, ◌⊎◌, sym, refl, subst, inl, inr, ⊎_elim, arith, below_more}
 use Rattle.amount.specs.Groups.{Ordered}
 use Rattle.network.specs.Walks.{Net}
 use Rattle.engine.specs.Tables.{Entry, Found}
@@ -36,39 +35,32 @@ abbrev pub Part : {A : Type 0} → Ordered A → Net A → ℕ → (ℕ → A) �
 Part G N k d m c v x y = Taken G N k d m c v x y ⊎ Empty G N k m c v x y
 
 module _ {A : Type 0} (G : Ordered A) (N : Net A) (k : ℕ) (d : ℕ → A) (m : ℕ → ℕ) (v : ℕ) where
-  pub part_none : Part G N k d m 0 v G.nil 0
-  part_none = inr (record { row = refl; mark = refl; none = λ f h. absurd (omega arith) })
-
-  -- one more place below
-  more : (P : ℕ → Type 0) (c : ℕ) → ((f : ℕ) → f < c → P f) → P c → (f : ℕ) → f < suc c → P f
-  more P c below here f h = elim (ℕ_discrete f c) [ yes s ↦ subst P (sym s) here | no s ↦ below f (omega arith) ]
-
   -- a wait that brings nothing here
-  pub part_skip : (c : ℕ) (x : A) (y : ℕ) → ¬ Offers N k m v c → Part G N k d m c v x y → Part G N k d m (suc c) v x y
+  pub part_skip : (c : ℕ) (x : A) (y : ℕ) → ¬ Offers N k m v c → Part G N k d m c v x y → Part G N k d m (c + 1) v x y
   part_skip c x y not-here p =
       ⊎_elim
-      (λ (t : Taken G N k d m c v x y). inl (record { e = t.e; mark = t.mark; below = omega (arith, t.below); offers = t.offers; is = t.is; most = more (λ f. Offers N k m v f → T (G.leq (brings G N d f) x)) c t.most (λ o. absurd (not-here o)); lower = t.lower }))
-      (λ (t : Empty G N k m c v x y). inr (record { row = t.row; mark = t.mark; none = more (λ f. ¬ Offers N k m v f) c t.none not-here }))
+      (λ (t : Taken G N k d m c v x y). inl (record { e = t.e; mark = t.mark; below = omega (arith, t.below); offers = t.offers; is = t.is; most = below_more (λ f. Offers N k m v f → T (G.leq (brings G N d f) x)) c t.most (λ o. absurd (not-here o)); lower = t.lower }))
+      (λ (t : Empty G N k m c v x y). inr (record { row = t.row; mark = t.mark; none = below_more (λ f. ¬ Offers N k m v f) c t.none not-here }))
       p
 
   -- the first that brings something
-  pub part_first : (c : ℕ) (x : A) → Offers N k m v c → Part G N k d m c v x 0 → Part G N k d m (suc c) v (brings G N d c) (suc c)
+  pub part_first : (c : ℕ) (x : A) → Offers N k m v c → Part G N k d m c v x 0 → Part G N k d m (c + 1) v (brings G N d c) (suc c)
   part_first c x o p =
       ⊎_elim
       (λ (t : Taken G N k d m c v x 0). absurd (omega (arith, t.mark)))
-      (λ (t : Empty G N k m c v x 0). inl (record { e = c; mark = refl; below = omega arith; offers = o; is = refl; most = more (λ f. Offers N k m v f → T (G.leq (brings G N d f) (brings G N d c))) c (λ f h w. absurd (t.none f h w)) (λ _. Toolkit.le_refl G _); lower = λ f h w. absurd (t.none f h w) }))
+      (λ (t : Empty G N k m c v x 0). inl (record { e = c; mark = refl; below = omega arith; offers = o; is = refl; most = below_more (λ f. Offers N k m v f → T (G.leq (brings G N d f) (brings G N d c))) c (λ f h w. absurd (t.none f h w)) (λ _. Toolkit.le_refl G _); lower = λ f h w. absurd (t.none f h w) }))
       p
 
   -- one that brings no more
-  pub part_keep : (c : ℕ) (x : A) (y : ℕ) → 0 < y → T (G.leq (brings G N d c) x) → Part G N k d m c v x y → Part G N k d m (suc c) v x y
+  pub part_keep : (c : ℕ) (x : A) (y : ℕ) → 0 < y → T (G.leq (brings G N d c) x) → Part G N k d m c v x y → Part G N k d m (c + 1) v x y
   part_keep c x y pos le p =
       ⊎_elim
-      (λ (t : Taken G N k d m c v x y). inl (record { e = t.e; mark = t.mark; below = omega (arith, t.below); offers = t.offers; is = t.is; most = more (λ f. Offers N k m v f → T (G.leq (brings G N d f) x)) c t.most (λ o. le); lower = t.lower }))
+      (λ (t : Taken G N k d m c v x y). inl (record { e = t.e; mark = t.mark; below = omega (arith, t.below); offers = t.offers; is = t.is; most = below_more (λ f. Offers N k m v f → T (G.leq (brings G N d f) x)) c t.most (λ o. le); lower = t.lower }))
       (λ (t : Empty G N k m c v x y). absurd (omega (arith, t.mark)))
       p
 
   -- one that brings more
-  pub part_better : (c : ℕ) (x : A) (y : ℕ) → 0 < y → Offers N k m v c → ¬ T (G.leq (brings G N d c) x) → Part G N k d m c v x y → Part G N k d m (suc c) v (brings G N d c) (suc c)
+  pub part_better : (c : ℕ) (x : A) (y : ℕ) → 0 < y → Offers N k m v c → ¬ T (G.leq (brings G N d c) x) → Part G N k d m c v x y → Part G N k d m (c + 1) v (brings G N d c) (suc c)
   part_better c x y pos o above p =
       ⊎_elim
       (λ (t : Taken G N k d m c v x y).
@@ -79,7 +71,7 @@ module _ {A : Type 0} (G : Ordered A) (N : Net A) (k : ℕ) (d : ℕ → A) (m :
         below = omega arith;
         offers = o;
         is = refl;
-        most = more (λ f. Offers N k m v f → T (G.leq (brings G N d f) (brings G N d c))) c (λ f h w. G.trans _ _ _ (t.most f h w) up) (λ _. Toolkit.le_refl G _);
+        most = below_more (λ f. Offers N k m v f → T (G.leq (brings G N d f) (brings G N d c))) c (λ f h w. G.trans _ _ _ (t.most f h w) up) (λ _. Toolkit.le_refl G _);
         lower = λ f h w same. above (subst (λ z. T (G.leq z x)) same (t.most f h w));
       }))
       (λ (t : Empty G N k m c v x y). absurd (omega (arith, t.mark)))

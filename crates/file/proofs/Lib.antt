@@ -1,10 +1,11 @@
 mod WordLists
+mod WaitLists
 mod ColumnSums
 mod Steps
-mod FittedRows
 mod RightWords
 mod Kept
 mod Deciding
 mod SpelledWords
 mod SpelledBack
 pub mod Claims
+pub mod Fitted

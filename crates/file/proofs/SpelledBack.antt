@@ -1,22 +1,21 @@
 -- Words that spell contents open, and stand for those contents.
 use Rattle.std.proofs.Common.{◌≡◌, ℕ, zero, suc, ◌+◌, ◌-◌, ◌*◌, ◌/◌, ◌%◌, ◌^◌, ◌<◌, ◌≤◌, Bool, true, false, cond, ltb, List, [], ◌∷◌, ◌++◌, map, length, get_or, take, ℤ, pos, negsuc, ◌-ℤ◌, neg_ℤ, ◌≤ℤ◌, IfSome, Some, None, Option, sym, refl, ap, ◌∙◌, subst, ap₂, ⊎_elim, append_assoc, suc-mul, arith, length-append, eq-eqb, ne_eqb}
-use lib.Signed.{lt_z}
-use Rattle.std.specs.List.{range_with_len}
 use Rattle.std.proofs.lemmas.List.FromFn.{fill_by_all}
 use Rattle.std.proofs.lemmas.List.{length-map, length_push, take_at, get_or_append_left, get_or-append-add, get_or-map, get_or_push}
 use Rattle.std.proofs.lemmas.Int.{ints}
+use Rattle.std.proofs.lemmas.Bool.Decides.{nat_tests}
 use Rattle.std.proofs.lemmas.Bool.{cases_lt, cond-true, cond-false, lt-ltb, le-ltb}
 use Rattle.std.proofs.lemmas.Nat.{div-add-mod', div_below, mod_below}
 use Rattle.network.specs.declared.Period.{Period}
 use Rattle.network.specs.Networks.{PlainWait, wait_at, AllWithin}
-use Rattle.file.specs.Words.{words_of, word_no, kind_of, field, upper, middle, lower, place_of}
+use Rattle.file.specs.Words.{words_of, word_no, kind_bits, field, upper, middle, lower, place_of}
 use Rattle.file.specs.Layout.{item, place, base, in_item, Right, is_claim, after_claim, stated_events, beyond, fault_in}
-use Rattle.file.specs.Contents.{Contents, contents, places_from, wait_in, claim_in}
+use Rattle.file.specs.Contents.{Contents, contents, places_from, wait_in, first_waits, claim_in}
 use Rattle.file.specs.Columns.{Agrees}
 use Rattle.file.specs.Opening.{Whole, Opens}
 use Rattle.file.proofs.RightWords.{heading_right, wait_right, claim_right, place_right, closing_right}
 use Rattle.file.proofs.Steps.{role_in_item, next_base}
-use Rattle.file.proofs.Kept.{has_claim_lem, wait_count_lem}
+use Rattle.file.proofs.Kept.{has_claim_lem, spelled_waits_lem}
 use Rattle.file.specs.Spelling.{place_word, wait_words, waits_words, claim_words, spelling, Spelled, Fileable, FileableClaim}
 
 abbrev signed : ℕ → ℤ
@@ -58,16 +57,16 @@ after_waits d ws rest p h =
     ap (λ i. get_or (waits_words ws ++ rest) (i + p) 0) (sym (waits_length d ws h)) ∙ get_or-append-add (waits_words ws) rest p 0
 
 -- the fields of the words
-heading_fields : (m n : ℕ) → m < 16 → n ≤ 1000 → let w = 1 * 2 ^ 28 + m * 2 ^ 24 + n in (kind_of w ≡ 1) × (middle w ≡ 0) × (upper w ≡ m) × (lower w ≡ n)
+heading_fields : (m n : ℕ) → m < 16 → n ≤ 1000 → let w = 1 * 2 ^ 28 + m * 2 ^ 24 + n in (kind_bits w ≡ 1) × (middle w ≡ 0) × (upper w ≡ m) × (lower w ≡ n)
 heading_fields m n h l = (omega arith, omega arith, omega arith, omega arith)
 
-wait_fields : (s e : ℕ) → s < 1000 → e < 1000 → let w = 2 * 2 ^ 28 + s * 2 ^ 12 + e in (kind_of w ≡ 2) × (upper w ≡ 0) × (middle w ≡ s) × (lower w ≡ e)
+wait_fields : (s e : ℕ) → s < 1000 → e < 1000 → let w = 2 * 2 ^ 28 + s * 2 ^ 12 + e in (kind_bits w ≡ 2) × (upper w ≡ 0) × (middle w ≡ s) × (lower w ≡ e)
 wait_fields s e h l = (omega arith, omega arith, omega arith, omega arith)
 
-claim_fields : (n : ℕ) → n ≤ 1000 → let w = 4 * 2 ^ 28 + n in (kind_of w ≡ 4) × (field w 12 16 ≡ 0) × (lower w ≡ n)
+claim_fields : (n : ℕ) → n ≤ 1000 → let w = 4 * 2 ^ 28 + n in (kind_bits w ≡ 4) × (field w 12 16 ≡ 0) × (lower w ≡ n)
 claim_fields n l = (omega arith, omega arith, omega arith)
 
-place_fields : (z : ℤ) → neg_ℤ (pos 86400000) ≤ℤ z → z ≤ℤ pos 86400000 → (kind_of (place_word z) ≡ 3) × (place_of (place_word z) ≡ z)
+place_fields : (z : ℤ) → neg_ℤ (pos 86400000) ≤ℤ z → z ≤ℤ pos 86400000 → (kind_bits (place_word z) ≡ 3) × (place_of (place_word z) ≡ z)
 place_fields (pos n) l h =
     let r : n ≤ 86400000 = omega (arith, ints) in
     let e : (3 * 2 ^ 28 + n) % 2 ^ 28 ≡ n = omega arith in
@@ -83,12 +82,7 @@ within_at b (x ∷ xs) zero h l = (h.0, h.1)
 within_at b (x ∷ xs) (suc p) h l = within_at b xs p h.2 (omega arith)
 
 not_beyond : (b : ℕ) (z : ℤ) → neg_ℤ (pos b) ≤ℤ z → z ≤ℤ pos b → beyond b z ≡ false
-not_beyond b z l h = go (lt_z z (neg_ℤ (pos b))) (lt_z (pos b) z) refl refl
-  where
-    go : (s t : Bool) → lt_z z (neg_ℤ (pos b)) ≡ s → lt_z (pos b) z ≡ t → cond s true t ≡ false
-    go true t e f = absurd (let q : ⊥ = omega (arith, ints) in q)
-    go false true e f = absurd (let q : ⊥ = omega (arith, ints) in q)
-    go false false e f = refl
+not_beyond b z l h = grind (arith, ints, nat_tests)
 
 -- what holds of word 0 and of every word of i items holds of every word before item i
 by_position : (P : ℕ → Type 0) (d i : ℕ) → P 0 → ((j p : ℕ) → j < i → p < 1 + d → P (base d j + p)) → (k : ℕ) → k < base d i → P k
@@ -121,7 +115,7 @@ module _ (m d : ℕ) (bs : List ℕ) (c : Contents) (fit : Fileable m d c) (s : 
       ∙ after_waits d c.waits tail p even
 
   -- a word by its position, in the role of that position
-  right_at : (j p k : ℕ) → p < 1 + d → k ≡ base d j + p → fault_in m (stated_events (words_of bs)) (in_item d (words_of bs) j p) (word_no (words_of bs) k) ≡ 0 → (kind_of (word_no (words_of bs) k) ≡ 5 → ⊥) → Right m d (words_of bs) k
+  right_at : (j p k : ℕ) → p < 1 + d → k ≡ base d j + p → fault_in m (stated_events (words_of bs)) (in_item d (words_of bs) j p) (word_no (words_of bs) k) ≡ 0 → (kind_bits (word_no (words_of bs) k) ≡ 5 → ⊥) → Right m d (words_of bs) k
   right_at j p k l e f n = (ap (λ r. fault_in m (stated_events (words_of bs)) r (word_no (words_of bs) k)) (role_in_item d (words_of bs) j p k l e) ∙ f, n)
 
   events_stated : stated_events (words_of bs) ≡ c.events
@@ -134,13 +128,13 @@ module _ (m d : ℕ) (bs : List ℕ) (c : Contents) (fit : Fileable m d c) (s : 
       let f = heading_fields m c.events fit.measure fit.few in
       let some = fit.some in
       let few = fit.few in
-      (heading_right m (stated_events (words_of bs)) w (ap kind_of e ∙ f.0, ap middle e ∙ f.1, ap upper e ∙ f.2, omega (arith, events_stated), omega (arith, events_stated)), λ k. omega (arith, ap kind_of e, f.0))
+      (heading_right m (stated_events (words_of bs)) w (ap kind_bits e ∙ f.0, ap middle e ∙ f.1, ap upper e ∙ f.2, omega (arith, events_stated), omega (arith, events_stated)), λ k. omega (arith, ap kind_bits e, f.0))
 
   -- the first word of a wait, and its places
   wait_first : (j : ℕ) → j < length c.waits → word_no (words_of bs) (base d j) ≡ 2 * 2 ^ 28 + (wait_at c.waits j).start * 2 ^ 12 + (wait_at c.waits j).end
   wait_first j h = in_wait j 0 (base d j) h (omega arith) (omega arith)
 
-  wait_parts : (j : ℕ) → j < length c.waits → let w = word_no (words_of bs) (base d j) in (kind_of w ≡ 2) × (upper w ≡ 0) × (middle w ≡ (wait_at c.waits j).start) × (lower w ≡ (wait_at c.waits j).end)
+  wait_parts : (j : ℕ) → j < length c.waits → let w = word_no (words_of bs) (base d j) in (kind_bits w ≡ 2) × (upper w ≡ 0) × (middle w ≡ (wait_at c.waits j).start) × (lower w ≡ (wait_at c.waits j).end)
   wait_parts j h =
       let few = fit.few in
       let ok = fit.waits j h in
@@ -148,9 +142,9 @@ module _ (m d : ℕ) (bs : List ℕ) (c : Contents) (fit : Fileable m d c) (s : 
       let en = ok.ends in
       let e = wait_first j h in
       let f = wait_fields (wait_at c.waits j).start (wait_at c.waits j).end (omega arith) (omega arith) in
-      (ap kind_of e ∙ f.0, ap upper e ∙ f.1, ap middle e ∙ f.2, ap lower e ∙ f.3)
+      (ap kind_bits e ∙ f.0, ap upper e ∙ f.1, ap middle e ∙ f.2, ap lower e ∙ f.3)
 
-  wait_place : (j p k : ℕ) → j < length c.waits → p < d → k ≡ base d j + suc p → (kind_of (word_no (words_of bs) k) ≡ 3) × (place_of (word_no (words_of bs) k) ≡ get_or (wait_at c.waits j).amount p (pos 0)) × (beyond 86400 (place_of (word_no (words_of bs) k)) ≡ false)
+  wait_place : (j p k : ℕ) → j < length c.waits → p < d → k ≡ base d j + suc p → (kind_bits (word_no (words_of bs) k) ≡ 3) × (place_of (word_no (words_of bs) k) ≡ get_or (wait_at c.waits j).amount p (pos 0)) × (beyond 86400 (place_of (word_no (words_of bs) k)) ≡ false)
   wait_place j p k h l e =
       let ok = fit.waits j h in
       let xs = (wait_at c.waits j).amount in
@@ -160,10 +154,10 @@ module _ (m d : ℕ) (bs : List ℕ) (c : Contents) (fit : Fileable m d c) (s : 
       let b = within_at 86400 xs p ok.near q in
       let f = place_fields z (omega (arith, ints, b.0)) (omega (arith, ints, b.1)) in
       let v = ap place_of w ∙ f.1 in
-      (ap kind_of w ∙ f.0, v, ap (beyond 86400) v ∙ not_beyond 86400 z b.0 b.1)
+      (ap kind_bits w ∙ f.0, v, ap (beyond 86400) v ∙ not_beyond 86400 z b.0 b.1)
 
   no_claim : (j : ℕ) → j < length c.waits → is_claim d (words_of bs) j ≡ false
-  no_claim j h = ne_eqb (kind_of (word_no (words_of bs) (base d j))) 4 (λ k. omega (arith, (wait_parts j h).0))
+  no_claim j h = ne_eqb (kind_bits (word_no (words_of bs) (base d j))) 4 (λ k. omega (arith, (wait_parts j h).0))
 
   none_before : (j : ℕ) → j ≤ length c.waits → after_claim d (words_of bs) j ≡ false
   none_before zero h = refl
@@ -199,7 +193,7 @@ module _ (m d : ℕ) (bs : List ℕ) (c : Contents) (fit : Fileable m d c) (s : 
       let en = sym k.3 in
       λ i. record { start = st i; end = en i; amount = a i }
 
-  waits_back : c.waits ≡ map (wait_in d (words_of bs)) (range_with_len 0 (length c.waits))
+  waits_back : c.waits ≡ first_waits d (words_of bs) (length c.waits)
   waits_back = fill_by_all (wait_in d (words_of bs)) c.waits (length c.waits) (record { start = 0; end = 0; amount = [] }) refl wait_back
 
   -- the file ends after i items, of which the last is a claim if b says so
@@ -208,14 +202,14 @@ module _ (m d : ℕ) (bs : List ℕ) (c : Contents) (fit : Fileable m d c) (s : 
       → cond b (Some (claim_in d (words_of bs) (length c.waits))) None ≡ c.claim → Whole bs → Opens m d bs × (contents d (words_of bs) ≡ c)
   ends_after b i count rest closes len after claim whole =
       let ws = words_of bs in
-      let kind = ap kind_of closes ∙ s.kind in
+      let kind = ap kind_bits closes ∙ s.kind in
       let spelt : length (spelling m c) ≡ base d i = omega (arith, ap length s.words, length_push (spelling m c) s.closing) in
       let front : take (base d i) ws ≡ spelling m c = ap (take (base d i)) s.words ∙ take_at (spelling m c) (s.closing ∷ []) (base d i) spelt in
       let items : length ws ≡ base d (length c.waits + cond b 1 0) + 1 = len ∙ ap (λ i. base d i + 1) count in
       let claims : b ≡ after_claim d ws (length c.waits + cond b 1 0) = sym after ∙ ap (after_claim d ws) count in
       let claimed = has_claim_lem d ws (length c.waits) b items claims in
-      let counted = wait_count_lem d ws (length c.waits) b items claims in
-      let waits = ap (λ n. map (wait_in d ws) (range_with_len 0 n)) counted ∙ sym waits_back in
+      let counted = spelled_waits_lem d ws (length c.waits) b items claims in
+      let waits = ap (first_waits d ws) counted ∙ sym waits_back in
       let told = ap₂ (λ b n. cond b (Some (claim_in d ws n)) None) claimed counted ∙ claim in (
         record {
           whole = whole;
@@ -243,13 +237,13 @@ module _ (m d : ℕ) (bs : List ℕ) (c : Contents) (fit : Fileable m d c) (s : 
     row_length = length-map r.total place_word ∙ ok.places
 
     -- the first word of the claim, and its places
-    claim_parts : let w = word_no (words_of bs) (base d (length c.waits)) in (kind_of w ≡ 4) × (field w 12 16 ≡ 0) × (lower w ≡ r.count)
+    claim_parts : let w = word_no (words_of bs) (base d (length c.waits)) in (kind_bits w ≡ 4) × (field w 12 16 ≡ 0) × (lower w ≡ r.count)
     claim_parts =
         let q : word_no (words_of bs) (base d (length c.waits)) ≡ 4 * 2 ^ 28 + r.count = in_tail 0 (base d (length c.waits)) (omega arith) ∙ ap (λ (xs : List ℕ). get_or xs 0 0) claim_tail in
         let f = claim_fields r.count ok.few in
-        (ap kind_of q ∙ f.0, ap (λ w. field w 12 16) q ∙ f.1, ap lower q ∙ f.2)
+        (ap kind_bits q ∙ f.0, ap (λ w. field w 12 16) q ∙ f.1, ap lower q ∙ f.2)
 
-    claim_place : (p k : ℕ) → p < d → k ≡ base d (length c.waits) + suc p → (kind_of (word_no (words_of bs) k) ≡ 3) × (place_of (word_no (words_of bs) k) ≡ get_or r.total p (pos 0)) × (beyond 86400000 (place_of (word_no (words_of bs) k)) ≡ false)
+    claim_place : (p k : ℕ) → p < d → k ≡ base d (length c.waits) + suc p → (kind_bits (word_no (words_of bs) k) ≡ 3) × (place_of (word_no (words_of bs) k) ≡ get_or r.total p (pos 0)) × (beyond 86400000 (place_of (word_no (words_of bs) k)) ≡ false)
     claim_place p k l q =
         let z = get_or r.total p (pos 0) in
         let h : p < length r.total = omega (arith, ok.places) in
@@ -260,10 +254,10 @@ module _ (m d : ℕ) (bs : List ℕ) (c : Contents) (fit : Fileable m d c) (s : 
         let b = within_at 86400000 r.total p ok.near h in
         let f = place_fields z b.0 b.1 in
         let v = ap place_of w ∙ f.1 in
-        (ap kind_of w ∙ f.0, v, ap (beyond 86400000) v ∙ not_beyond 86400000 z b.0 b.1)
+        (ap kind_bits w ∙ f.0, v, ap (beyond 86400000) v ∙ not_beyond 86400000 z b.0 b.1)
 
     is_claim_lem : is_claim d (words_of bs) (length c.waits) ≡ true
-    is_claim_lem = eq-eqb (kind_of (word_no (words_of bs) (base d (length c.waits)))) 4 claim_parts.0
+    is_claim_lem = eq-eqb (kind_bits (word_no (words_of bs) (base d (length c.waits)))) 4 claim_parts.0
 
     claim_fine : (p : ℕ) → p < 1 + d → Right m d (words_of bs) (base d (length c.waits) + p)
     claim_fine zero l =

@@ -2,16 +2,17 @@
 use Rattle.std.proofs.Common.{◌≡◌, ℕ, zero, suc, ◌+◌, ◌-◌, ◌*◌, ◌%◌, ◌^◌, ◌<◌, ◌≤◌, Bool, true, false, cond, ltb, List, [], ◌∷◌, ◌++◌, map, length, take, drop, pos, negsuc, ◌-ℤ◌, IfSome, Some, None, sym, refl, ap, ◌∙◌, subst, ap₂, append_assoc, arith, drop-cons}
 use lib.Seq.{drop-length}
 use Rattle.std.specs.List.{range_with_len}
-use Rattle.std.proofs.lemmas.List.FromFn.{length-map-range_with_len, get_or-map-range_with_len}
+use Rattle.std.proofs.lemmas.List.FromFn.{length-map-range_with_len}
 use Rattle.std.proofs.lemmas.List.{take_at, length_push}
 use Rattle.std.proofs.lemmas.Int.{ints}
-use Rattle.file.specs.Words.{words_of, word_no, kind_of, middle, lower, place_of}
+use Rattle.network.specs.Networks.{graph}
+use Rattle.file.specs.Words.{words_of, word_no, kind_bits, middle, lower, place_of}
 use Rattle.file.specs.Columns.{Agrees}
 use Rattle.file.specs.Layout.{base, is_claim, stated_events}
-use Rattle.file.specs.Contents.{places_from, wait_in, claim_in, meant, contents, has_claim, wait_count}
+use Rattle.file.specs.Contents.{places_from, wait_in, claim_in, first_waits, meant, contents, has_claim, spelled_waits}
 use Rattle.file.specs.Opening.{Opens}
-use Rattle.file.specs.Spelling.{place_bits, place_word, wait_words, waits_words, claim_words, spelling, Spelled, Fileable, FileableWait, FileableClaim}
-use Rattle.file.specs.Soundness.{within}
+use Rattle.file.specs.Spelling.{place_bits, place_word, wait_words, waits_words, claim_words, spelling, Spelled, Fileable, FileableClaim}
+use Rattle.file.proofs.WaitLists.{within, waits_length, waits_at}
 use Rattle.file.proofs.Steps.{next_base}
 use Rattle.file.proofs.RightWords.{HeadingFields, WaitFields, ClaimFields}
 use Rattle.file.proofs.Kept.{Laid, laid, outlined, facts, item_inside, heading_fields, wait_fields, claim_fields, place_fields, row_near}
@@ -23,10 +24,10 @@ heading_word m w f = omega (arith, f.0, f.1, f.2)
 wait_word : (n j w : ℕ) → WaitFields n j w → w ≡ 2 * 2 ^ 28 + middle w * 2 ^ 12 + lower w
 wait_word n j w f = omega (arith, f.0, f.1)
 
-claim_word : (w : ℕ) → kind_of w ≡ 4 → ClaimFields w → w ≡ 4 * 2 ^ 28 + lower w
+claim_word : (w : ℕ) → kind_bits w ≡ 4 → ClaimFields w → w ≡ 4 * 2 ^ 28 + lower w
 claim_word w k f = omega (arith, f.0)
 
-place_word_lem : (w : ℕ) → kind_of w ≡ 3 → w ≡ place_word (place_of w)
+place_word_lem : (w : ℕ) → kind_bits w ≡ 3 → w ≡ place_word (place_of w)
 place_word_lem w k = let e = two's (w % 2 ^ 28) (omega arith) in omega (arith, k, e)
   where
     two's : (b : ℕ) → b < 2 ^ 28 → place_bits (cond (ltb b (2 ^ 27)) (pos b) (pos b -ℤ pos (2 ^ 28))) ≡ b
@@ -37,7 +38,7 @@ place_word_lem w k = let e = two's (w % 2 ^ 28) (omega arith) in omega (arith, k
         go false e = ap place_bits (let z : pos b -ℤ pos (2 ^ 28) ≡ negsuc (2 ^ 28 - suc b) = omega (arith, ints) in z) ∙ omega arith
 
 -- the words from word k + a on, d of them places
-places_spelled : (ws : List ℕ) (k d a : ℕ) → k + a + d ≤ length ws → ((p : ℕ) → a ≤ p → p < a + d → kind_of (word_no ws (k + p)) ≡ 3)
+places_spelled : (ws : List ℕ) (k d a : ℕ) → k + a + d ≤ length ws → ((p : ℕ) → a ≤ p → p < a + d → kind_bits (word_no ws (k + p)) ≡ 3)
     → drop (k + a) ws ≡ map place_word (map (λ p. place_of (word_no ws (k + p))) (range_with_len a d)) ++ drop (k + a + d) ws
 places_spelled ws k zero a l h = ap (λ i. drop i ws) (let e : k + a ≡ k + a + 0 = omega arith in e)
 places_spelled ws k (suc d) a l h =
@@ -79,7 +80,7 @@ module _ {m d : ℕ} {ws : List ℕ} {n : ℕ} {c : Bool} (x : Laid m d ws n c) 
       drop-cons ws x.last 0 (omega arith)
       ∙ ap (λ (ys : List ℕ). word_no ws x.last ∷ ys) (ap (λ i. drop i ws) (let e : suc x.last ≡ length ws = omega arith in e) ∙ drop-length ws)
 
-  all_spelled : ws ≡ spelling m (meant (stated_events ws) (map (wait_in d ws) (range_with_len 0 n)) (cond c (Some (claim_in d ws n)) None)) ++ (word_no ws x.last ∷ [])
+  all_spelled : ws ≡ spelling m (meant (graph (stated_events ws) (first_waits d ws n)) (cond c (Some (claim_in d ws n)) None)) ++ (word_no ws x.last ∷ [])
   all_spelled =
       let waits = waits_words (map (wait_in d ws) (range_with_len 0 n)) in
       let claim = claim_words (cond c (Some (claim_in d ws n)) None) in
@@ -108,23 +109,20 @@ pub fileable : (m d : ℕ) (bs : List ℕ) → Opens m d bs → Fileable m d (co
 fileable m d bs o =
     let ws = words_of bs in
     let l = outlined m d bs o in
-    let f = facts m d bs (stated_events ws) (wait_count d ws) (has_claim d ws) o l in
+    let f = facts m d bs (stated_events ws) (spelled_waits d ws) (has_claim d ws) o l in
     let h = heading_fields (laid o l) in
-    let n = length-map-range_with_len (wait_in d ws) 0 (wait_count d ws) in
     record {
       measure = omega (arith, h.2);
       some = h.3;
       few = h.4;
-      short = omega (arith, f.short);
+      short = f.owed.short;
       waits = λ j q.
-          let k : j < wait_count d ws = omega arith in
-          subst (FileableWait d (stated_events ws)) (sym (get_or-map-range_with_len (wait_in d ws) 0 (wait_count d ws) j j (record { start = 0; end = 0; amount = [] }) k (omega arith)))
-          (record {
-            starts = f.starts j k;
-            ends = f.ends j k;
-            places = length-map-range_with_len (λ p. place_of (word_no ws (base d j + 1 + p))) 0 d;
-            near = within 86400 (places_from d ws (base d j + 1)) (f.spans j k);
-          });
+          record {
+            starts = f.owed.sound.starts j q;
+            ends = f.owed.sound.ends j q;
+            places = ap (λ w. length w.amount) (waits_at d ws (spelled_waits d ws) j (omega (arith, q, waits_length d ws (spelled_waits d ws)))) ∙ length-map-range_with_len (λ p. place_of (word_no ws (base d j + 1 + p))) 0 d;
+            near = f.owed.sound.spans j q;
+          };
       claim = claim_fileable (laid o l) (has_claim d ws) refl;
     }
 

@@ -1,15 +1,19 @@
 -- How the reader's state goes with the roles of the words.
-use Rattle.std.proofs.Common.{◌≡◌, ℕ, zero, suc, ◌+◌, ◌-◌, ◌*◌, ◌%◌, ◌<◌, ◌≤◌, Bool, true, false, cond, eqb, List, sym, refl, ap, ◌∙◌, subst, inl, inr, mul-le-mul_right, suc-mul, arith, eq-eqb, ne_eqb}
+use Rattle.std.proofs.Common.{◌≡◌, ℕ, zero, suc, ◌+◌, ◌-◌, ◌*◌, ◌%◌, ◌<◌, ◌≤◌, Bool, true, false, eqb, List, length, Some, sym, refl, ap, ◌∙◌, subst, inl, inr, mul-le-mul_right, suc-mul, arith, eq-eqb, ne_eqb, below_more}
 use Rattle.std.proofs.lemmas.Nat.{div-mul-add, mod-mul-add}
 use Rattle.std.proofs.lemmas.Bool.{eqb-true}
-use Rattle.file.specs.Words.{kind_of, lower, word_no}
-use Rattle.file.specs.Layout.{heading, item, place, in_item, role_at, base, is_claim, after_claim, stated_events, fault_of, fault_in, fault_at}
+use Rattle.file.specs.Words.{kind_bits, lower, word_no}
+use Rattle.file.specs.Layout.{heading, item, place, in_item, role_at, base, is_claim, after_claim, stated_events, fault_of, fault_in, fault_at, Right, RightTo, ClosedAt}
 use Rattle.file.specs.Faults.{told}
-use Rattle.file.specs.Reading.{Stands, Going, Goes, role_of}
+use Rattle.file.specs.Reading.{claims, role_of, Going, GoesFrom, Goes, OfItem, StandsIn, Stands, Outlined}
 use Rattle.file.specs.declared.fault.FileFault.{FileFault}
 use Rattle.file.specs.declared.fault.FileFault.TheVariants.{Torn, Stray, Smudged, Unclosed, Trailed, OffCheck, ForeignMeasure, UnknownEvent, OutOfSpan, Full, BadCount}
+use Rattle.file.specs.declared.reader.Item.{Item}
+use Rattle.file.specs.declared.reader.Item.TheVariants.{Wait, Claim}
+use Rattle.file.specs.declared.reader.Reader.{Reader}
 use Rattle.file.specs.declared.reader.State.{State}
-use Rattle.file.specs.declared.reader.State.TheVariants.{Start, Items, WaitRow, ClaimRow, Claimed, Closed}
+use Rattle.file.specs.declared.reader.State.TheVariants.{Start, Items, Row, Claimed, Closed}
+use Rattle.file.specs.declared.reader.Word.{Word}
 
 -- the word that stands p words after the beginning of item j
 pub role_in_item : (d : ℕ) (ws : List ℕ) (j p k : ℕ) → p < 1 + d → k ≡ base d j + p → role_at d ws k ≡ in_item d ws j p
@@ -32,13 +36,12 @@ place_role d ws i n k e p l =
     role_in_item d ws i (suc (d - n)) k (omega arith) (omega arith)
 
 -- where the reader stands, the next word has the role that its state expects
-role_stands : (d : ℕ) (ws : List ℕ) (k : ℕ) (s : State) (e j : ℕ) → Stands d ws k s e j → role_at d ws k ≡ role_of s j
-role_stands d ws k Start e j h = ap (role_at d ws) h.0
-role_stands d ws k Items e j h = role_in_item d ws j 0 k (omega arith) (omega (arith, h.0)) ∙ ap (item j) h.1
-role_stands d ws k (WaitRow n) e j h = place_role d ws h.0 n k h.2 h.3 h.4 ∙ ap place h.5
-role_stands d ws k (ClaimRow n) e j h = place_role d ws j n k h.0 h.1 h.2 ∙ ap place h.3
-role_stands d ws k Claimed e j h = role_in_item d ws (suc j) 0 k (omega arith) (omega (arith, h.0)) ∙ ap (item (suc j)) h.1
-role_stands d ws k (Closed c) e j h = absurd h
+role_stands : (ws : List ℕ) (k : ℕ) (t : State) (r : Reader) → StandsIn t ws k r → role_at r.places ws k ≡ role_of t r.waits
+role_stands ws k Start r h = ap (role_at r.places ws) h.0
+role_stands ws k Items r h = role_in_item r.places ws r.waits 0 k (omega arith) (omega (arith, h.0)) ∙ ap (item r.waits) h.1
+role_stands ws k (Row i n) r h = place_role r.places ws h.0 n k h.2 h.3 h.4 ∙ ap place h.5
+role_stands ws k Claimed r h = role_in_item r.places ws (suc r.waits) 0 k (omega arith) (omega (arith, h.0)) ∙ ap (item (suc r.waits)) h.1
+role_stands ws k Closed r h = absurd h
 
 -- no event count bears on the heading
 heading_alike : (m n e k w : ℕ) → fault_of m n heading k w ≡ fault_of m e heading k w
@@ -49,92 +52,174 @@ heading_alike m n e k w = go (eqb k 1) refl
     go false q = rw (q)
 
 -- what the reader finds of a word is what the layout says of it
-pub fault_found : (m d : ℕ) (ws : List ℕ) (k : ℕ) (s : State) (e j w : ℕ) → Stands d ws k s e j → w ≡ word_no ws k → fault_at m d ws k ≡ fault_in m e (role_of s j) w
-fault_found m d ws k s e j w h v =
-    ap (λ r. fault_in m (stated_events ws) r (word_no ws k)) (role_stands d ws k s e j h)
-    ∙ ap (fault_in m (stated_events ws) (role_of s j)) (sym v)
-    ∙ counted s h
+pub fault_found : (ws : List ℕ) (k : ℕ) (r : Reader) (w : ℕ) → Stands ws k r → w ≡ word_no ws k → fault_at r.measure r.places ws k ≡ fault_in r.measure r.events (role_of r.state r.waits) w
+fault_found ws k r w h v =
+    ap (λ x. fault_in r.measure (stated_events ws) x (word_no ws k)) (role_stands ws k r.state r h)
+    ∙ ap (fault_in r.measure (stated_events ws) (role_of r.state r.waits)) (sym v)
+    ∙ counted r.state h
   where
-    counted : (s : State) → Stands d ws k s e j → fault_in m (stated_events ws) (role_of s j) w ≡ fault_in m e (role_of s j) w
-    counted Start h = heading_alike m (stated_events ws) e (kind_of w) w
-    counted Items h = ap (λ n. fault_in m n (item j false) w) (sym h.2)
-    counted (WaitRow n) h = ap (λ n. fault_in m n (place false) w) (sym h.6)
-    counted (ClaimRow n) h = ap (λ n. fault_in m n (place true) w) (sym h.4)
-    counted Claimed h = ap (λ n. fault_in m n (item (suc j) true) w) (sym h.2)
-    counted (Closed c) h = absurd h
+    counted : (t : State) → StandsIn t ws k r → fault_in r.measure (stated_events ws) (role_of t r.waits) w ≡ fault_in r.measure r.events (role_of t r.waits) w
+    counted Start h = heading_alike r.measure (stated_events ws) r.events (kind_bits w) w
+    counted Items h = ap (λ n. fault_in r.measure n (item r.waits false) w) (sym h.2)
+    counted (Row i n) h = ap (λ n. fault_in r.measure n (place (claims i)) w) (sym h.6)
+    counted Claimed h = ap (λ n. fault_in r.measure n (item (suc r.waits) true) w) (sym h.2)
+    counted Closed h = absurd h
 
 -- item j by the kind of its first word
-no_claim : (d : ℕ) (ws : List ℕ) (j k w : ℕ) → k ≡ base d j → w ≡ word_no ws k → (kind_of w ≡ 4 → ⊥) → is_claim d ws j ≡ false
-no_claim d ws j k w p v n = ne_eqb (kind_of (word_no ws (base d j))) 4 (λ z. n (ap kind_of (v ∙ ap (word_no ws) p) ∙ z))
+no_claim : (d : ℕ) (ws : List ℕ) (j k w : ℕ) → k ≡ base d j → w ≡ word_no ws k → (kind_bits w ≡ 4 → ⊥) → is_claim d ws j ≡ false
+no_claim d ws j k w p v n = ne_eqb (kind_bits (word_no ws (base d j))) 4 (λ z. n (ap kind_bits (v ∙ ap (word_no ws) p) ∙ z))
 
-a_claim : (d : ℕ) (ws : List ℕ) (j k w : ℕ) → k ≡ base d j → w ≡ word_no ws k → kind_of w ≡ 4 → is_claim d ws j ≡ true
-a_claim d ws j k w p v e = eq-eqb (kind_of (word_no ws (base d j))) 4 (sym (ap kind_of (v ∙ ap (word_no ws) p)) ∙ e)
+a_claim : (d : ℕ) (ws : List ℕ) (j k w : ℕ) → k ≡ base d j → w ≡ word_no ws k → kind_bits w ≡ 4 → is_claim d ws j ≡ true
+a_claim d ws j k w p v e = eq-eqb (kind_bits (word_no ws (base d j))) 4 (sym (ap kind_bits (v ∙ ap (word_no ws) p)) ∙ e)
 
--- one right word on
-pub advance : (d : ℕ) (ws : List ℕ) (k w : ℕ) (s : State) (e j : ℕ) (t : State) (f i : ℕ) → 0 < d → Stands d ws k s e j → w ≡ word_no ws k → Goes d w s e j t f i → Going t → Stands d ws (k + 1) t f i × (kind_of w ≡ 5 → ⊥)
-advance d ws k w Start e j t f i p h v g o =
-    let z : i ≡ 0 = g.3 ∙ h.1 in
-    (subst (λ s. Stands d ws (k + 1) s f i) (sym g.1) (omega (arith, h.0, ap (base d) z), ap (after_claim d ws) z, g.2 ∙ ap lower (v ∙ ap (word_no ws) h.0)), λ q. omega (arith, g.0))
-advance d ws k w Items e j t f i p h v g o =
-    elim g.1 [
-      | inl a ↦ (subst (λ s. Stands d ws (k + 1) s f i) (sym a.1) (j, a.2, omega (arith, h.0, next_base d j), p, omega arith, no_claim d ws j k w h.0 v (λ q. omega (arith, a.0)), g.0 ∙ h.2), λ q. omega (arith, a.0))
+-- no word changes the measure
+pub kept : (w : Word) (r s : Reader) → Goes w r s → (s.measure ≡ r.measure) × (s.places ≡ r.places)
+kept w r s g = from r.state g
+  where
+    alike : (y : Reader) → s ≡ y → (s.measure ≡ y.measure) × (s.places ≡ y.places)
+    alike y e = (ap (λ (z : Reader). z.measure) e, ap (λ (z : Reader). z.places) e)
+
+    from : (t : State) → GoesFrom t w r s → (s.measure ≡ r.measure) × (s.places ≡ r.places)
+    from Start g = alike _ g.1
+    from Items g = elim g [
+      | inl a ↦ alike _ a.1
       | inr b ↦ elim b [
-        | inl a ↦ (subst (λ s. Stands d ws (k + 1) s f i) (sym a.1) (subst (λ y. Stands d ws (k + 1) (ClaimRow d) f y) (sym a.2) (omega (arith, h.0, next_base d j), p, omega arith, a_claim d ws j k w h.0 v a.0, g.0 ∙ h.2)), λ q. omega (arith, a.0))
-        | inr a ↦ absurd (subst Going a.1 o)
+        | inl a ↦ alike _ a.1
+        | inr a ↦ alike _ a.1
       ]
     ]
-advance d ws k w (WaitRow zero) e j t f i p h v g o = absurd (let z : ⊥ = omega (arith, h.3) in z)
-advance d ws k w (WaitRow (suc zero)) e j t f i p h v g o =
-    (subst (λ s. Stands d ws (k + 1) s f i) (sym g.1) (subst (λ y. Stands d ws (k + 1) Items f y) (sym (g.3 ∙ h.1)) (h.2, h.5, g.2 ∙ h.6)), λ q. omega (arith, g.0))
-advance d ws k w (WaitRow (suc (suc n))) e j t f i p h v g o =
-    (subst (λ s. Stands d ws (k + 1) s f i) (sym g.1) (h.0, g.3 ∙ h.1, omega (arith, h.2), omega arith, omega (arith, h.4), h.5, g.2 ∙ h.6), λ q. omega (arith, g.0))
-advance d ws k w (ClaimRow zero) e j t f i p h v g o = absurd (let z : ⊥ = omega (arith, h.1) in z)
-advance d ws k w (ClaimRow (suc zero)) e j t f i p h v g o =
-    (subst (λ s. Stands d ws (k + 1) s f i) (sym g.1) (subst (λ y. Stands d ws (k + 1) Claimed f y) (sym g.3) (h.0, h.3, g.2 ∙ h.4)), λ q. omega (arith, g.0))
-advance d ws k w (ClaimRow (suc (suc n))) e j t f i p h v g o =
-    (subst (λ s. Stands d ws (k + 1) s f i) (sym g.1) (subst (λ y. Stands d ws (k + 1) (ClaimRow (suc n)) f y) (sym g.3) (omega (arith, h.0), omega arith, omega (arith, h.2), h.3, g.2 ∙ h.4)), λ q. omega (arith, g.0))
-advance d ws k w Claimed e j t f i p h v g o = absurd (subst Going g.1 o)
-advance d ws k w (Closed c) e j t f i p h v g o = absurd h
+    from (Row i n) g = alike _ g.2
+    from Claimed g = alike _ g.1
+    from Closed g = absurd g
 
-closed_alike : (b c : Bool) → Closed b ≡ Closed c → b ≡ c
-closed_alike b c e = cc
+-- the reader r has come to word k: every word before it is right, and none of them closes the file
+pub record CameTo (ws : List ℕ) (k : ℕ) (r : Reader) : Type 0 where
+  pub before : RightTo r.measure r.places ws k
+  pub stands : Stands ws k r
+  pub going : Going r.state
 
-never : {X : Type 0} (s : State) (b : Bool) → Going s → Closed b ≡ s → X
-never s b o e = absurd (subst Going (sym e) o)
+-- the state does not bear on whose row it is
+same_item : (i : Item) (j : ℕ) (r : Reader) (t : State) → OfItem i j r → OfItem i j (record r { state = t })
+same_item Wait j r t h = h
+same_item Claim j r t h = h
 
--- the word that closes the file: where it stands, and whether a claim came before it
-pub finish : (d : ℕ) (ws : List ℕ) (k w : ℕ) (s : State) (e j : ℕ) (b : Bool) (f i : ℕ) → Stands d ws k s e j → Goes d w s e j (Closed b) f i → (kind_of w ≡ 5) × (k ≡ base d (i + cond b 1 0)) × (b ≡ after_claim d ws (i + cond b 1 0)) × (f ≡ stated_events ws)
-finish d ws k w Start e j b f i h g = never Items b tt g.1
-finish d ws k w Items e j b f i h g =
-    elim g.1 [
-      | inl a ↦ never (WaitRow d) b tt a.1
-      | inr r ↦ elim r [
-        | inl a ↦ never (ClaimRow d) b tt a.1
-        | inr a ↦
-            let z : b ≡ false = closed_alike b false a.1 in
-            let y : j ≡ i + cond b 1 0 = sym (ap (λ q. i + cond q 1 0) z ∙ omega (arith, a.2)) in
-            (a.0, h.0 ∙ ap (base d) y, z ∙ sym h.1 ∙ ap (after_claim d ws) y, g.0 ∙ h.2)
+-- the number of the items, without a claim and with one
+plus_none : (j : ℕ) → j + 0 ≡ j
+plus_none j = omega arith
+
+plus_one : (j : ℕ) → j + 1 ≡ suc j
+plus_one j = omega arith
+
+-- a right word w leads on from reader r to reader s
+module _ (ws : List ℕ) (k : ℕ) (w : Word) (r s : Reader) (x : CameTo ws k r) (at : w.at ≡ k) (bits : w.bits ≡ word_no ws k) (right : fault_in r.measure r.events (role_of r.state r.waits) w.bits ≡ 0) where
+  -- past it, if it is not the closing word
+  on : (t : ℕ) → kind_bits w.bits ≡ t → (t ≡ 5 → ⊥) → RightTo r.measure r.places ws (k + 1)
+  on t q n = below_more (Right r.measure r.places ws) k x.before (fault_found ws k r w.bits x.stands bits ∙ right, λ z. n (sym q ∙ ap kind_bits bits ∙ z))
+
+  came_from : (t : State) → 0 < r.places → StandsIn t ws k r → GoesFrom t w r s → Going s.state → CameTo ws (k + 1) s
+  came_from Start p h g o =
+      subst (CameTo ws (k + 1)) (sym g.1)
+      (record {
+        before = on 1 g.0 (λ z. omega arith);
+        stands = (omega (arith, h.0, ap (base r.places) h.1), ap (after_claim r.places ws) h.1, ap lower (bits ∙ ap (word_no ws) h.0), h.2);
+        going = tt;
+      })
+  came_from Items p h g o =
+      elim g [
+        | inl a ↦
+            subst (CameTo ws (k + 1)) (sym a.1)
+            (record {
+              before = on 2 a.0 (λ z. omega arith);
+              stands = (r.waits, (omega arith, h.3), omega (arith, h.0, next_base r.places r.waits), p, omega arith, no_claim r.places ws r.waits k w.bits h.0 bits (λ q. omega (arith, a.0)), h.2);
+              going = tt;
+            })
+        | inr b ↦ elim b [
+          | inl a ↦
+              subst (CameTo ws (k + 1)) (sym a.1)
+              (record {
+                before = on 4 a.0 (λ z. omega arith);
+                stands = (r.waits, (refl, ap Some (at ∙ h.0)), omega (arith, h.0, next_base r.places r.waits), p, omega arith, a_claim r.places ws r.waits k w.bits h.0 bits a.0, h.2);
+                going = tt;
+              })
+          | inr a ↦ absurd (subst (λ (y : Reader). Going y.state) a.1 o)
+        ]
       ]
-    ]
-finish d ws k w (WaitRow zero) e j b f i h g = absurd (let z : ⊥ = omega (arith, h.3) in z)
-finish d ws k w (WaitRow (suc zero)) e j b f i h g = never Items b tt g.1
-finish d ws k w (WaitRow (suc (suc n))) e j b f i h g = never (WaitRow (suc n)) b tt g.1
-finish d ws k w (ClaimRow zero) e j b f i h g = absurd (let z : ⊥ = omega (arith, h.1) in z)
-finish d ws k w (ClaimRow (suc zero)) e j b f i h g = never Claimed b tt g.1
-finish d ws k w (ClaimRow (suc (suc n))) e j b f i h g = never (ClaimRow (suc n)) b tt g.1
-finish d ws k w Claimed e j b f i h g =
-    let z : b ≡ true = closed_alike b true g.1 in
-    let y : suc j ≡ i + cond b 1 0 = sym (ap (λ q. i + cond q 1 0) z ∙ omega (arith, g.3)) in
-    (g.0, h.0 ∙ ap (base d) y, z ∙ sym h.1 ∙ ap (after_claim d ws) y, g.2 ∙ h.2)
-finish d ws k w (Closed c) e j b f i h g = absurd h
+  came_from (Row i zero) p h g o = absurd (let z : ⊥ = omega (arith, h.3) in z)
+  came_from (Row Wait (suc zero)) p h g o =
+      subst (CameTo ws (k + 1)) (sym (g.2 ∙ ap (λ t. record r { state = t }) g.1))
+      (record {
+        before = on 3 g.0 (λ z. omega arith);
+        stands = (h.2 ∙ ap (base r.places) (sym h.1.0), ap (after_claim r.places ws) h.1.0 ∙ h.5, h.6, h.1.1);
+        going = tt;
+      })
+  came_from (Row Claim (suc zero)) p h g o =
+      subst (CameTo ws (k + 1)) (sym (g.2 ∙ ap (λ t. record r { state = t }) g.1))
+      (record {
+        before = on 3 g.0 (λ z. omega arith);
+        stands = (h.2 ∙ ap (λ j. base r.places (suc j)) (sym h.1.0), ap (is_claim r.places ws) h.1.0 ∙ h.5, h.6, h.1.1 ∙ ap (λ j. Some (base r.places j)) (sym h.1.0));
+        going = tt;
+      })
+  came_from (Row i (suc (suc n))) p h g o =
+      subst (CameTo ws (k + 1)) (sym (g.2 ∙ ap (λ t. record r { state = t }) g.1))
+      (record {
+        before = on 3 g.0 (λ z. omega arith);
+        stands = (h.0, same_item i h.0 r (Row i (suc n)) h.1, omega (arith, h.2), omega arith, omega (arith, h.4), h.5, h.6);
+        going = tt;
+      })
+  came_from Claimed p h g o = absurd (subst (λ (y : Reader). Going y.state) g.1 o)
+  came_from Closed p h g o = absurd h
 
-pub going : (t : State) → ((b : Bool) → t ≡ Closed b → ⊥) → Going t
+  pub came_on : 0 < r.places → Goes w r s → Going s.state → CameTo ws (k + 1) s
+  came_on p g o = came_from r.state p x.stands g o
+
+  -- at the closing word, what the file holds if that is the last word
+  abbrev Found : Reader → Type 0
+  Found y = (kind_bits w.bits ≡ 5) × (k + 1 ≡ length ws → Outlined r.places ws (record { events = y.events; waits = y.waits; claim = y.claim }))
+
+  never : (y : Reader) → s ≡ y → Going y.state → s.state ≡ Closed → Found s
+  never y e o q = absurd (subst Going (sym (ap (λ (z : Reader). z.state) e) ∙ q) o)
+
+  found_from : (t : State) → StandsIn t ws k r → GoesFrom t w r s → s.state ≡ Closed → Found s
+  found_from Start h g q = never _ g.1 tt q
+  found_from Items h g q =
+      elim g [
+        | inl a ↦ never _ a.1 tt q
+        | inr b ↦ elim b [
+          | inl a ↦ never _ a.1 tt q
+          | inr a ↦ subst Found (sym a.1) (
+            a.0,
+            λ n. subst (λ c. Outlined r.places ws (record { events = r.events; waits = r.waits; claim = c })) (sym h.3) (record {
+              counted = record { stated = h.2; items = sym n ∙ omega (arith, h.0, ap (base r.places) (plus_none r.waits)); claims = sym h.1 ∙ ap (after_claim r.places ws) (sym (plus_none r.waits)) };
+              claim_at = tt;
+            }),
+          )
+        ]
+      ]
+  found_from (Row i zero) h g q = absurd (let z : ⊥ = omega (arith, h.3) in z)
+  found_from (Row Wait (suc zero)) h g q = never _ (g.2 ∙ ap (λ t. record r { state = t }) g.1) tt q
+  found_from (Row Claim (suc zero)) h g q = never _ (g.2 ∙ ap (λ t. record r { state = t }) g.1) tt q
+  found_from (Row i (suc (suc n))) h g q = never _ (g.2 ∙ ap (λ t. record r { state = t }) g.1) tt q
+  found_from Claimed h g q =
+      subst Found (sym g.1) (
+        g.0,
+        λ n. subst (λ c. Outlined r.places ws (record { events = r.events; waits = r.waits; claim = c })) (sym h.3) (record {
+          counted = record { stated = h.2; items = sym n ∙ omega (arith, h.0, ap (base r.places) (plus_one r.waits)); claims = sym h.1 ∙ ap (after_claim r.places ws) (sym (plus_one r.waits)) };
+          claim_at = refl;
+        }),
+      )
+  found_from Closed h g q = absurd h
+
+  pub closed : Goes w r s → s.state ≡ Closed → ClosedAt r.measure r.places ws k × (k + 1 ≡ length ws → Outlined r.places ws (record { events = s.events; waits = s.waits; claim = s.claim }))
+  closed g q =
+      let f = found_from r.state x.stands g q in
+      (record { before = x.before; right = fault_found ws k r w.bits x.stands bits ∙ right; closing = sym (ap kind_bits bits) ∙ f.0 }, f.1)
+
+pub going : (t : State) → (t ≡ Closed → ⊥) → Going t
 going Start n = tt
 going Items n = tt
-going (WaitRow k) n = tt
-going (ClaimRow k) n = tt
+going (Row i k) n = tt
 going Claimed n = tt
-going (Closed c) n = n c refl
+going Closed n = n refl
 
 -- no refusal has number 0
 pub numbered : (f : FileFault) → (told f).number ≡ 0 → ⊥

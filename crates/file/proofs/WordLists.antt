@@ -1,5 +1,7 @@
 -- The words of a run of bytes, by their numbers.
-use Rattle.std.proofs.Common.{◌≡◌, ℕ, zero, suc, ◌+◌, ◌*◌, ◌/◌, ◌≤◌, List, [], ◌∷◌, length, get_or, sym, refl, ap, ◌∙◌, arith}
+use Rattle.std.proofs.Common.{◌≡◌, ℕ, zero, suc, ◌+◌, ◌*◌, ◌/◌, ◌<◌, ◌≤◌, List, [], ◌∷◌, length, get_or, take, sym, refl, ap, ◌∙◌, arith}
+use Rattle.std.specs.List.{enumerate_from}
+use Rattle.std.proofs.lemmas.List.FromFn.{length-enumerate_from, get_or-enumerate_from}
 use Rattle.file.specs.Words.{words_of, word_no}
 
 -- four bytes on
@@ -25,3 +27,26 @@ word_count (a ∷ []) = refl
 word_count (a ∷ (b ∷ [])) = refl
 word_count (a ∷ (b ∷ (c ∷ []))) = refl
 word_count (a ∷ (b ∷ (c ∷ (d ∷ xs)))) = omega (arith, word_count xs)
+
+-- the words of the bytes before word k
+pub words_before : (bs : List ℕ) (k : ℕ) → 4 * k ≤ length bs → words_of (take (4 * k) bs) ≡ take k (words_of bs)
+words_before bs zero h = refl
+words_before [] (suc k) h = absurd (let f : ⊥ = omega arith in f)
+words_before (a ∷ []) (suc k) h = absurd (let f : ⊥ = omega arith in f)
+words_before (a ∷ (b ∷ [])) (suc k) h = absurd (let f : ⊥ = omega arith in f)
+words_before (a ∷ (b ∷ (c ∷ []))) (suc k) h = absurd (let f : ⊥ = omega arith in f)
+words_before (a ∷ (b ∷ (c ∷ (d ∷ xs)))) (suc k) h =
+    ap (λ n. words_of (take n (a ∷ (b ∷ (c ∷ (d ∷ xs)))))) (let e : 4 * suc k ≡ suc (suc (suc (suc (4 * k)))) = omega arith in e)
+    ∙ ap (λ (ws : List ℕ). (a * 16777216 + b * 65536 + c * 256 + d) ∷ ws) (words_before xs k (omega arith))
+
+-- item n of the words with their numbers
+pub enumerated : (ws : List ℕ) (n k w : ℕ) → (n < length (enumerate_from 0 ws)) × ((k, w) ≡ get_or (enumerate_from 0 ws) n (k, w)) → (n < length ws) × (k ≡ n) × (w ≡ word_no ws n)
+enumerated ws n k w h =
+    let l : n < length ws = omega (arith, h.0, length-enumerate_from 0 ws) in
+    let e = h.1 ∙ get_or-enumerate_from 0 ws n (k, w) l in
+    (l, ap (λ p. p.0) e ∙ omega arith, ap (λ p. p.1) e ∙ same ws n l w)
+  where
+    same : (ws : List ℕ) (n : ℕ) → n < length ws → (d : ℕ) → get_or ws n d ≡ get_or ws n 0
+    same [] n l d = absurd (let f : ⊥ = omega arith in f)
+    same (x ∷ ws) zero l d = refl
+    same (x ∷ ws) (suc n) l d = same ws n (omega arith) d

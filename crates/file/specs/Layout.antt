@@ -1,7 +1,7 @@
 -- The layout of a file for a measure of d places: a heading, then items of one word and d places each, then the closing word.
 -- An item is a wait or a claim, and after a claim only the closing word may come.
 use Rattle.std.specs.Prelude.{◌≡◌, ℕ, zero, suc, ◌+◌, ◌*◌, ◌/◌, ◌%◌, ◌<◌, Bool, true, false, cond, not, List, [], ◌∷◌, ℤ, pos, neg_ℤ, ◌==◌, ◌≢◌, int_lt, nat_lt}
-use Rattle.file.specs.Words.{word_no, kind_of, field, upper, middle, lower, place_of}
+use Rattle.file.specs.Words.{word_no, kind_bits, field, upper, middle, lower, place_of}
 
 -- the number of the word that item j begins with
 abbrev pub base : ℕ → ℕ → ℕ
@@ -9,7 +9,7 @@ base d j = 1 + j * (1 + d)
 
 -- whether item j is a claim
 abbrev pub is_claim : ℕ → List ℕ → ℕ → Bool
-is_claim d ws j = kind_of (word_no ws (base d j)) == 4
+is_claim d ws j = kind_bits (word_no ws (base d j)) == 4
 
 -- whether the item before item j is a claim
 abbrev pub after_claim : ℕ → List ℕ → ℕ → Bool
@@ -83,7 +83,7 @@ fault_of m n r k w = first_of (
     ∷ [])))))))
 
 abbrev pub fault_in : ℕ → ℕ → Role → ℕ → ℕ
-fault_in m n r w = fault_of m n r (kind_of w) w
+fault_in m n r w = fault_of m n r (kind_bits w) w
 
 -- the event count that the heading states
 abbrev pub stated_events : List ℕ → ℕ
@@ -95,7 +95,7 @@ fault_at m d ws k = fault_in m (stated_events ws) (role_at d ws k) (word_no ws k
 
 -- word k is right and is not the closing word
 abbrev pub Right : ℕ → ℕ → List ℕ → ℕ → Type 0
-Right m d ws k = (fault_at m d ws k ≡ 0) × (kind_of (word_no ws k) ≢ 5)
+Right m d ws k = (fault_at m d ws k ≡ 0) × (kind_bits (word_no ws k) ≢ 5)
 
 -- so is every word before word k
 abbrev pub RightTo : ℕ → ℕ → List ℕ → ℕ → Type 0
@@ -105,4 +105,4 @@ RightTo m d ws k = (i : ℕ) → i < k → Right m d ws i
 pub record ClosedAt (m d : ℕ) (ws : List ℕ) (k : ℕ) : Type 0 where
   pub before : RightTo m d ws k
   pub right : fault_at m d ws k ≡ 0
-  pub closing : kind_of (word_no ws k) ≡ 5
+  pub closing : kind_bits (word_no ws k) ≡ 5

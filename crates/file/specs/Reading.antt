@@ -1,71 +1,92 @@
 -- How the reader goes through the words. These say what its parts promise one another; what opening means stands in Opening.
-use Rattle.std.specs.Prelude.{◌≡◌, ℕ, zero, suc, ◌+◌, ◌<◌, ◌≤◌, Bool, true, false, cond, ◌⊎◌, List, length, ◌≢◌}
-use Rattle.file.specs.Words.{kind_of, lower}
+use Rattle.std.specs.Prelude.{◌≡◌, ℕ, zero, suc, ◌+◌, ◌<◌, ◌≤◌, Bool, true, false, cond, ◌⊎◌, List, length, IfSome, Some, None, Result, Ok, Err}
+use Rattle.std.specs.Option.{is_some}
+use Rattle.file.specs.Words.{kind_bits, lower}
 use Rattle.file.specs.Layout.{Role, heading, item, place, base, is_claim, after_claim, stated_events}
 use Rattle.file.specs.Faults.{told}
 use Rattle.file.specs.declared.fault.FileFault.{FileFault}
+use Rattle.file.specs.declared.reader.Item.{Item}
+use Rattle.file.specs.declared.reader.Item.TheVariants.{Wait, Claim}
+use Rattle.file.specs.declared.reader.Outline.{Outline}
+use Rattle.file.specs.declared.reader.Reader.{Reader}
 use Rattle.file.specs.declared.reader.State.{State}
-use Rattle.file.specs.declared.reader.State.TheVariants.{Start, Items, WaitRow, ClaimRow, Claimed, Closed}
-use Rattle.file.specs.declared.reader.Kind.{Kind}
-use Rattle.file.specs.declared.reader.Kind.TheVariants.{Heading, Wait, Place, Claim, Closing, Other}
+use Rattle.file.specs.declared.reader.State.TheVariants.{Start, Items, Row, Claimed, Closed}
+use Rattle.file.specs.declared.reader.Word.{Word}
 
--- a refusal by number x at word k
-abbrev pub AtWord : FileFault → ℕ → ℕ → Type 0
-AtWord f x k = ((told f).number ≡ x) × ((told f).place ≡ k)
+-- what testing word k answers, which earns the fault of number x or none: a right answer, or that fault there
+abbrev pub Tested : {A : Type 0} → ℕ → ℕ → (A → Type 0) → Result A FileFault → Type 0
+Tested x k right (Ok a) = (x ≡ 0) × right a
+Tested x k right (Err f) = ((told f).number ≡ x) × ((told f).place ≡ k)
 
--- a word of kind k is read as this
-abbrev pub Named : Kind → ℕ → Type 0
-Named Heading k = k ≡ 1
-Named Wait k = k ≡ 2
-Named Place k = k ≡ 3
-Named Claim k = k ≡ 4
-Named Closing k = k ≡ 5
-Named Other k = (k ≢ 1) × (k ≢ 2) × (k ≢ 3) × (k ≢ 4) × (k ≢ 5)
+-- whether an item is a claim
+abbrev pub claims : Item → Bool
+claims Wait = false
+claims Claim = true
+
+-- what comes after its row
+abbrev pub done : Item → State
+done Wait = Items
+done Claim = Claimed
 
 -- the role that a state expects of the next word, after so many waits
 abbrev pub role_of : State → ℕ → Role
 role_of Start j = heading
 role_of Items j = item j false
-role_of (WaitRow left) j = place false
-role_of (ClaimRow left) j = place true
+role_of (Row i left) j = place (claims i)
 role_of Claimed j = item (suc j) true
-role_of (Closed c) j = heading
+role_of Closed j = heading
 
 -- the closing word is yet to come
 abbrev pub Going : State → Type 0
 Going Start = Unit {0}
 Going Items = Unit {0}
-Going (WaitRow n) = Unit {0}
-Going (ClaimRow n) = Unit {0}
+Going (Row i n) = Unit {0}
 Going Claimed = Unit {0}
-Going (Closed c) = ⊥
+Going Closed = ⊥
 
--- what comes after a place, when so many were left with it: another place of the row, or what follows the row
-abbrev pub AfterPlace : (ℕ → State) → State → ℕ → State → Type 0
-AfterPlace row done zero s = Unit {0}
-AfterPlace row done (suc zero) s = s ≡ done
-AfterPlace row done (suc (suc n)) s = s ≡ row (suc n)
+-- what comes after a place of an item, when so many were left with it: another place, or what comes after the row
+abbrev pub AfterPlace : Item → ℕ → State → Type 0
+AfterPlace i zero s = Unit {0}
+AfterPlace i (suc zero) s = s ≡ done i
+AfterPlace i (suc (suc n)) s = s ≡ Row i (suc n)
 
--- what a right word w leads to: state, event count and number of waits before it and after it
-abbrev pub Goes : ℕ → ℕ → State → ℕ → ℕ → State → ℕ → ℕ → Type 0
-Goes d w Start e j s f i = (kind_of w ≡ 1) × (s ≡ Items) × (f ≡ lower w) × (i ≡ j)
-Goes d w Items e j s f i = (f ≡ e) × (((kind_of w ≡ 2) × (s ≡ WaitRow d) × (i ≡ suc j)) ⊎ (((kind_of w ≡ 4) × (s ≡ ClaimRow d) × (i ≡ j)) ⊎ ((kind_of w ≡ 5) × (s ≡ Closed false) × (i ≡ j))))
-Goes d w (WaitRow n) e j s f i = (kind_of w ≡ 3) × AfterPlace WaitRow Items n s × (f ≡ e) × (i ≡ j)
-Goes d w (ClaimRow n) e j s f i = (kind_of w ≡ 3) × AfterPlace ClaimRow Claimed n s × (f ≡ e) × (i ≡ j)
-Goes d w Claimed e j s f i = (kind_of w ≡ 5) × (s ≡ Closed true) × (f ≡ e) × (i ≡ j)
-Goes d w (Closed c) e j s f i = ⊥
+-- how a right word leads from reader r, in the state given, to reader s
+abbrev pub GoesFrom : State → Word → Reader → Reader → Type 0
+GoesFrom Start w r s = (kind_bits w.bits ≡ 1) × (s ≡ record r { state = Items; events = lower w.bits })
+GoesFrom Items w r s =
+    ((kind_bits w.bits ≡ 2) × (s ≡ record r { state = Row Wait r.places; waits = r.waits + 1 }))
+    ⊎ (((kind_bits w.bits ≡ 4) × (s ≡ record r { state = Row Claim r.places; claim = Some w.at }))
+    ⊎ ((kind_bits w.bits ≡ 5) × (s ≡ record r { state = Closed })))
+GoesFrom (Row i n) w r s = (kind_bits w.bits ≡ 3) × AfterPlace i n s.state × (s ≡ record r { state = s.state })
+GoesFrom Claimed w r s = (kind_bits w.bits ≡ 5) × (s ≡ record r { state = Closed })
+GoesFrom Closed w r s = ⊥
 
--- where the reader stands before word k, with the event count e known and j waits begun
-abbrev pub Stands : ℕ → List ℕ → ℕ → State → ℕ → ℕ → Type 0
-Stands d ws k Start e j = (k ≡ 0) × (j ≡ 0)
-Stands d ws k Items e j = (k ≡ base d j) × (after_claim d ws j ≡ false) × (e ≡ stated_events ws)
-Stands d ws k (WaitRow n) e j = (i : ℕ) × (j ≡ suc i) × (k + n ≡ base d (suc i)) × (0 < n) × (n ≤ d) × (is_claim d ws i ≡ false) × (e ≡ stated_events ws)
-Stands d ws k (ClaimRow n) e j = (k + n ≡ base d (suc j)) × (0 < n) × (n ≤ d) × (is_claim d ws j ≡ true) × (e ≡ stated_events ws)
-Stands d ws k Claimed e j = (k ≡ base d (suc j)) × (is_claim d ws j ≡ true) × (e ≡ stated_events ws)
-Stands d ws k (Closed c) e j = ⊥
+abbrev pub Goes : Word → Reader → Reader → Type 0
+Goes w r s = GoesFrom r.state w r s
 
--- what the reader found when it closed: the event count, the number of waits, and whether there is a claim
-pub record Outlined (d : ℕ) (ws : List ℕ) (events waits : ℕ) (claimed : Bool) : Type 0 where
+-- the row that is read belongs to item j
+abbrev pub OfItem : Item → ℕ → Reader → Type 0
+OfItem Wait j r = (r.waits ≡ suc j) × (r.claim ≡ None)
+OfItem Claim j r = (r.waits ≡ j) × (r.claim ≡ Some (base r.places j))
+
+-- where the reader r stands before word k, in the state given
+abbrev pub StandsIn : State → List ℕ → ℕ → Reader → Type 0
+StandsIn Start ws k r = (k ≡ 0) × (r.waits ≡ 0) × (r.claim ≡ None)
+StandsIn Items ws k r = (k ≡ base r.places r.waits) × (after_claim r.places ws r.waits ≡ false) × (r.events ≡ stated_events ws) × (r.claim ≡ None)
+StandsIn (Row i n) ws k r = (j : ℕ) × OfItem i j r × (k + n ≡ base r.places (suc j)) × (0 < n) × (n ≤ r.places) × (is_claim r.places ws j ≡ claims i) × (r.events ≡ stated_events ws)
+StandsIn Claimed ws k r = (k ≡ base r.places (suc r.waits)) × (is_claim r.places ws r.waits ≡ true) × (r.events ≡ stated_events ws) × (r.claim ≡ Some (base r.places r.waits))
+StandsIn Closed ws k r = ⊥
+
+abbrev pub Stands : List ℕ → ℕ → Reader → Type 0
+Stands ws k r = StandsIn r.state ws k r
+
+-- the words of a file are a heading, so many waits, a claim if there is one, and the closing word
+pub record Counted (d : ℕ) (ws : List ℕ) (events waits : ℕ) (claimed : Bool) : Type 0 where
   pub stated : events ≡ stated_events ws
   pub items : length ws ≡ base d (waits + cond claimed 1 0) + 1
   pub claims : claimed ≡ after_claim d ws (waits + cond claimed 1 0)
+
+-- what the reader found when it closed
+pub record Outlined (d : ℕ) (ws : List ℕ) (o : Outline) : Type 0 where
+  pub counted : Counted d ws o.events o.waits (is_some o.claim)
+  pub claim_at : IfSome o.claim (λ k. k ≡ base d o.waits)

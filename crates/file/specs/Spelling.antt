@@ -2,7 +2,7 @@
 use Rattle.std.specs.Prelude.{◌≡◌, ℕ, suc, ◌+◌, ◌-◌, ◌*◌, ◌^◌, ◌<◌, ◌≤◌, List, [], ◌∷◌, ◌++◌, map, length, ℤ, pos, negsuc, IfSome, Some, None, Option}
 use Rattle.network.specs.declared.Period.{Period}
 use Rattle.network.specs.Networks.{PlainWait, wait_at, AllWithin}
-use Rattle.file.specs.Words.{kind_of}
+use Rattle.file.specs.Words.{kind_bits}
 use Rattle.file.specs.Columns.{Agrees}
 use Rattle.file.specs.Contents.{Contents}
 
@@ -57,5 +57,5 @@ pub record Fileable (m d : ℕ) (c : Contents) : Type 0 where
 pub record Spelled (m : ℕ) (c : Contents) (ws : List ℕ) : Type 0 where
   pub closing : ℕ
   pub words : ws ≡ spelling m c ++ (closing ∷ [])
-  pub kind : kind_of closing ≡ 5
+  pub kind : kind_bits closing ≡ 5
   pub agrees : Agrees (spelling m c) closing

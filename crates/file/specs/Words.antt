@@ -18,8 +18,8 @@ abbrev pub field : ℕ → ℕ → ℕ → ℕ
 field w low wide = w / 2 ^ low % 2 ^ wide
 
 -- the kind: the top four bits
-abbrev pub kind_of : ℕ → ℕ
-kind_of w = w / 2 ^ 28
+abbrev pub kind_bits : ℕ → ℕ
+kind_bits w = w / 2 ^ 28
 
 -- bits 27-24, 23-12 and 11-0
 abbrev pub upper : ℕ → ℕ

@@ -1,38 +1,29 @@
-// An opened file: the lent bytes, and what they spell as a network.
-ghost use Rattle.std.specs.Prelude.{◌≡◌, ℕ, ◌+◌, ◌*◌, ◌<◌, ◌≤◌, false, length};
-ghost use Rattle.amount.specs.Rows.{row_of};
+//! An opened file: the lent bytes, and what they spell as a network.
+ghost use Rattle.std.specs.Prelude.{◌≡◌, ◌+◌, ◌*◌, ◌≤◌, length};
 ghost use Rattle.amount.specs.Rows.{places as listed};
-ghost use Rattle.amount.specs.Spans.{span};
+ghost use Rattle.network.specs.Networks.{graph, Owed};
 ghost use Rattle.file.specs.Words.{words_of};
-ghost use Rattle.file.specs.Contents.{places_from, wait_in, fitted_waits};
-ghost use Rattle.file.specs.Soundness.{some_beyond, fitted_short, fitted_sound};
+ghost use Rattle.file.specs.Contents.{places_from, first_waits};
+ghost use Rattle.file.specs.Soundness.{owed_prop};
 
 use crate::words;
-use amount::filed::Filed;
+use amount::filed::{Filed, MOST_PLACES};
+use amount::measure::Scaled;
 use network::{Network, Period, Wait};
 
-// How many places a row has at most.
-const MOST_PLACES: usize = 4;
-
-// A file opened for the measure X; each wait has so many places.
-#[derive(Drop)]
-pub struct Opened<'a, X> {
+/// A file opened for the measure X.
+#[derive(Debug, Drop)]
+pub struct Opened<'a, X: Scaled> {
     pub(crate) bytes: &'a [u8],
     pub(crate) events: u32,
     pub(crate) waits: u32,
-    pub(crate) places: usize,
     pub(crate) claim: Option<Period<X>>,
-    ghost small: { places ≤ 4 },
-    ghost few: { events ≤ 1000 },
-    ghost short: { waits ≤ 20000 },
-    ghost room: { 4 * (1 + waits * (1 + places)) ≤ length bytes.now },
-    ghost starts: { (j : ℕ) → j < waits → (wait_in places (words_of bytes.now) j).start < events },
-    ghost ends: { (j : ℕ) → j < waits → (wait_in places (words_of bytes.now) j).end < events },
-    ghost spans: { (j : ℕ) → j < waits → some_beyond span (wait_in places (words_of bytes.now) j).amount ≡ false },
+    ghost owed: { Owed (graph events (first_waits X.scale.places (words_of bytes.now) waits)) } by { Prim.hlevel owed_prop },
+    ghost room: { 4 * (1 + waits * (1 + X.scale.places)) ≤ length bytes.now },
 }
 
-impl<'a, X: Copy> Opened<'a, X> {
-    // The claim, if the file has one.
+impl<'a, X: Scaled + Copy> Opened<'a, X> {
+    /// The claim, if the file has one.
     pub fn claim(&self) -> Option<Period<X>>
         ensures { result ≡ self.now.claim }
     {
@@ -40,44 +31,41 @@ impl<'a, X: Copy> Opened<'a, X> {
     }
 }
 
-// The amount in the places of word k and those after it, fitted to the measure's number of places.
-pub(crate) fn amount_from<X: Filed>(bytes: &[u8], k: usize, count: usize) -> X
-    requires { (4 * (k + count) ≤ length bytes.now) × (count ≤ 4) }
-    ensures { listed X.Measure.places (X.Measure.row result) ≡ listed X.Measure.places (row_of X.Measure.places (places_from count (words_of bytes.now) k)) }
+// The amount in the places of word k and those after it.
+pub(crate) fn amount_from<X: Filed>(bytes: &[u8], k: usize) -> X
+    requires { 4 * (k + X.scale.places) ≤ length bytes.now }
+    ensures { listed X.scale.places (X.scale.row result) ≡ places_from X.scale.places (words_of bytes.now) k }
 {
+    // a local array, cut to the measure's places: an `ArrayVec` would be made of one and cut as well, and is no plainer
     let mut places = [0i64; MOST_PLACES];
-    for p in 0..count {
-        places[p] = words::place(words::word(bytes, k + p));
+    let places = &mut places[..X::PLACES];
+    for (p, place) in places.iter_mut().enumerate() {
+        *place = words::place(words::word(bytes, k + p));
     }
-    X::from_places(&places[0..X::place_count()])
+    X::from_places(places)
 }
 
 impl<'a, X: Filed> Network<X> for Opened<'a, X> {
-    ghost events = { λ s. s.events };
+    ghost graph = { λ s. graph s.events (first_waits X.scale.places (words_of s.bytes.now) s.waits) };
 
-    ghost waits = { λ s. fitted_waits X.Measure.places s.places (words_of s.bytes.now) s.waits };
-
-    ghost few = { λ s. s.few };
-
-    ghost short = { λ s. fitted_short X.Measure.places s.places (words_of s.bytes.now) s.waits s.short };
-
-    ghost sound = { λ s. fitted_sound X.Measure.places s.places (words_of s.bytes.now) s.waits s.events s.starts s.ends s.spans };
+    ghost owed = { λ s. s.owed };
 
     fn event_count(&self) -> u32 {
         self.events
     }
 
+    #[tactic(auto, using(crate::proofs::WaitLists::waits_length))]
     fn wait_count(&self) -> u32 {
         self.waits
     }
 
     fn wait(&self, i: u32) -> Wait<X> {
-        let at = 1 + i as usize * (1 + self.places);
+        let at = 1 + i as usize * (1 + X::PLACES);
         let w = words::word(self.bytes, at);
         Wait {
             start: words::middle(w),
             end: words::lower(w),
-            amount: amount_from(self.bytes, at + 1, self.places),
+            amount: amount_from(self.bytes, at + 1),
         }
     }
 }

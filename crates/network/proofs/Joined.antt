@@ -1,6 +1,6 @@
 -- Waits that join events of their graph, the lists of waits that have such, and what a walk counts for.
 use Rattle.std.proofs.Common.{◌≡◌, ℕ, suc, ◌<◌, List, [], ◌∷◌, length, refl}
-use Rattle.network.specs.Networks.{PlainWait, Sound}
+use Rattle.network.specs.Networks.{Graph, Sound}
 use Rattle.network.specs.Walks.{Net, net, count}
 
 -- every wait joins two of the events
@@ -8,9 +8,9 @@ pub record Joined {A : Type 0} (N : Net A) : Type 0 where
   pub starts : (e : ℕ) → e < N.waits → N.from e < N.events
   pub ends : (e : ℕ) → e < N.waits → N.to e < N.events
 
--- as those of a sound list do
-pub joined : (d n : ℕ) (ws : List PlainWait) → Sound n ws → Joined (net d n ws)
-joined d n ws s = record { starts = s.starts; ends = s.ends }
+-- as those of a network do
+pub joined : (d : ℕ) (g : Graph) → Sound g → Joined (net d g)
+joined d g s = record { starts = s.starts; ends = s.ends }
 
 module _ {A : Type 0} (N : Net A) where
   -- a walk of no waits counts for nothing

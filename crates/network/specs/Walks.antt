@@ -2,7 +2,7 @@
 use Rattle.std.specs.Prelude.{◌≡◌, ℕ, ◌<◌, ◌≤◌, T, List, [], ◌∷◌, length, slice_index}
 use Rattle.amount.specs.Groups.{Ordered, times}
 use Rattle.amount.specs.Rows.{Row, row_of}
-use Rattle.network.specs.Networks.{PlainWait, wait_at}
+use Rattle.network.specs.Networks.{Graph, wait_at}
 
 -- a network as a graph: events and waits are numbered from 0, and each wait leads from an event to an event
 pub record Net (A : Type 0) : Type 0 where
@@ -12,14 +12,14 @@ pub record Net (A : Type 0) : Type 0 where
   pub to : ℕ → ℕ
   pub amount : ℕ → A
 
--- the graph of n events and a list of waits, whose amounts are read as rows of d places
-abbrev pub net : (d : ℕ) → ℕ → List PlainWait → Net (Row d)
-net d n ws = record {
-  events = n;
-  waits = length ws;
-  from = λ e. (wait_at ws e).start;
-  to = λ e. (wait_at ws e).end;
-  amount = λ e. row_of d (wait_at ws e).amount;
+-- the graph of a network, whose amounts are read as rows of d places
+abbrev pub net : (d : ℕ) → Graph → Net (Row d)
+net d g = record {
+  events = g.events;
+  waits = length g.waits;
+  from = λ e. (wait_at g.waits e).start;
+  to = λ e. (wait_at g.waits e).end;
+  amount = λ e. row_of d (wait_at g.waits e).amount;
 }
 
 -- a walk: the waits es, in the order walked, lead from event u to event v, each from where the one before ended

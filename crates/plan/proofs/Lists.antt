@@ -1,44 +1,99 @@
--- What a write to the memory does to a plan's list of waits.
-use Rattle.std.proofs.Common.{◌≡◌, ℕ, suc, ◌+◌, ◌<◌, ◌≤◌, false, List, map, length, get_or, take, drop, set, ℤ, sym, refl, ap, ◌∙◌}
-use lib.Seq.{take-set-lt, map-set}
-use Rattle.std.specs.List.{remove}
-use Rattle.std.proofs.lemmas.List.{take_more_set, map_push, map-append, take-map, drop-map}
-use Rattle.amount.specs.Rows.{Row, places}
+-- How an edit of the records in memory edits the list that the first of them make.
+use Rattle.std.proofs.Common.{◌≡◌, ℕ, suc, ◌+◌, ◌-◌, ◌<◌, ◌≤◌, false, List, [], ◌∷◌, ◌++◌, map, length, take, drop, set, sym, refl, ap, ◌∙◌, subst, arith, length-drop, length-set, length-take, length-take-le}
+use lib.Seq.{take-set-lt}
+use borrow.Rule.Slice.PartMut.{put_mid}
+use Rattle.std.specs.List.{All, remove, copy_within}
+use Rattle.std.proofs.lemmas.List.{map-append, take-map, drop-map, drop-take, take-take, take_all, length-map, take_more_set, drop-set-lt}
+use Rattle.std.proofs.lemmas.List.Elements.{All-append, All-take, All-drop}
+use Rattle.std.proofs.lemmas.List.Edits.{length-paste, take-paste, drop-paste}
 use Rattle.network.specs.declared.Wait.{Wait}
-use Rattle.network.specs.Networks.{PlainWait, plain}
-use Rattle.plan.specs.Plans.{Plan, meant}
-use Rattle.plan.specs.Rules.{added, retimed, Changed}
-use Rattle.plan.specs.Sound.{meant_length, meant_at}
+use Rattle.network.specs.Networks.{PlainWait}
+use Rattle.std.proofs.lemmas.Slice.{put_mid-paste}
+use Rattle.plan.specs.Plans.{Plan}
+use Rattle.plan.specs.Rules.{Changed}
 
 -- a map takes out what it is taken from
 pub map_removed : {W V : Type 0} (f : W → V) (xs : List W) (i : ℕ) → map f (remove xs i) ≡ remove (map f xs) i
 map_removed f xs i = map-append f (take i xs) (drop (suc i) xs) ∙ rw (take-map f i xs, drop-map f (suc i) xs) refl
 
-module _ {S : Type 0} (d : ℕ) (row : S → Row d) (m : List (Wait S)) (count : ℕ) where
-  -- a record written past the list, with the list made longer, adds what it means
-  pub put_list : (s : Wait S) (w : PlainWait) → count < length m → plain d row s ≡ w → meant d row (count + 1) (set m count s) ≡ added (meant d row count m) w
-  put_list s w h e =
-      ap (map (plain d row)) (take_more_set m count s h)
-      ∙ map_push (plain d row) (take count m) s
-      ∙ ap (λ (v : PlainWait). added (meant d row count m) v) e
+-- how many elements a map of the first has
+pub meant_length : {W V : Type 0} (f : W → V) (count : ℕ) (m : List W) → count ≤ length m → length (map f (take count m)) ≡ count
+meant_length f count m fits = length-map (take count m) f ∙ length-take-le count m fits
 
-  -- a record in the list with another amount retimes its wait
-  pub retime_list : count ≤ length m → (i : ℕ) (w : Wait S) (s : S) (a : List ℤ) → i < count → places d (row s) ≡ a
-      → meant d row count (set m i (record { start = (get_or m i w).start; end = (get_or m i w).end; amount = s })) ≡ retimed (meant d row count m) i a
-  retime_list fits i w s a h e =
-      let old : Wait S = get_or m i w in
-      ap (map (plain d row)) (take-set-lt count m i (record { start = old.start; end = old.end; amount = s }) h)
-      ∙ map-set (plain d row) (take count m) i (record { start = old.start; end = old.end; amount = s })
-      ∙ ap (λ (x : List ℤ). set (meant d row count m) i (record { start = old.start; end = old.end; amount = x })) e
-      ∙ ap (λ (v : PlainWait). set (meant d row count m) i (record { start = v.start; end = v.end; amount = a })) (sym (meant_at d row count m fits i w h))
+-- the first `count` elements of `new` are the list ws, and those past them are as in `old`
+pub record Edited {W : Type 0} (old new : List W) (count : ℕ) (ws : List W) : Type 0 where
+  pub size : length new ≡ length old
+  pub fits : count ≤ length new
+  pub list : take count new ≡ ws
+  pub past : drop count new ≡ drop count old
 
--- a draft as a plan, from its parts
-abbrev pub planned : {S : Type 0} (d : ℕ) → (S → Row d) → ℕ → ℕ → List (Wait S) → Plan S
-planned d row n count m = record { fixed = false; events = n; waits = meant d row count m; memory = m }
+module _ {W : Type 0} (m : List W) (count : ℕ) where
+  -- one more at the end
+  pub put_edits : (w : W) → count < length m → Edited m (set m count w) (count + 1) (take count m ++ w ∷ [])
+  put_edits w h = record {
+    size = length-set m count w;
+    fits = simp length-set (omega arith);
+    list = take_more_set m count w h;
+    past = drop-set-lt (count + 1) m count w (omega arith);
+  }
 
--- a draft whose records mean the waits ws, and whose records past them stay
-pub changed_by : {S : Type 0} (d : ℕ) (row : S → Row d) (n n' count count' : ℕ) (m m' : List (Wait S)) (ws : List PlainWait) → n' ≡ n → count' ≤ length m'
-    → meant d row count' m' ≡ ws → length m' ≡ length m → drop count' m' ≡ drop count' m → Changed (planned d row n count m) (planned d row n' count' m') ws
-changed_by d row n n' count count' m m' ws e f l s p =
-    let k : length ws ≡ count' = sym (ap length l) ∙ meant_length d row count' m' f in
-    record { state = refl; events = e; waits = l; size = s; past = rw k p }
+  -- another in the place of element i
+  pub retime_edits : (i : ℕ) (w : W) → i < count → count ≤ length m → Edited m (set m i w) count (set (take count m) i w)
+  retime_edits i w h fits = record {
+    size = length-set m i w;
+    fits = simp length-set fits;
+    list = take-set-lt count m i w h;
+    past = drop-set-lt count m i w h;
+  }
+
+  -- element i taken out, by moving the later ones down
+  pub drop_edits : (i : ℕ) (new : List W) → i < count → count ≤ length m → new ≡ copy_within m (i + 1) count i → Edited m new (count - 1) (remove (take count m) i)
+  drop_edits i new h fits is =
+      let rest : List W = drop (i + 1) m in
+      let k : ℕ = count - (i + 1) in
+      let next : i + 1 ≡ suc i = omega arith in
+      let n : length rest ≡ length m - (i + 1) = length-drop (i + 1) m in
+      let all : count ≡ (i + 1) + k = omega arith in
+      let last : i + k ≡ count - 1 = omega arith in
+      let size = length-paste m i rest k (omega arith) (omega arith) in
+      rw is (record {
+        size = size;
+        fits = omega arith;
+        list = rw (← last) (take-paste m i rest k (omega arith) (omega arith)
+            ∙ ap (λ ws. take i m ++ ws) (sym (drop-take (i + 1) k m))
+            ∙ ap (λ ws. ws ++ drop (i + 1) (take ((i + 1) + k) m)) (sym (take-take i count m (omega arith)))
+            ∙ ap (λ j. take i (take count m) ++ drop (i + 1) (take j m)) (sym all)
+            ∙ ap (λ j. take i (take count m) ++ drop j (take count m)) next);
+        past = rw (← last) (drop-paste m i rest k (omega arith) (omega arith));
+      })
+
+  -- the part after them, n elements long, written anew
+  pub append_edits : (n : ℕ) (ws : List W) → count + n ≤ length m → length ws ≡ length (take ((count + n) - count) (drop count m)) → Edited m (put_mid count ((count + n) - count) m ws) (count + n) (take count m ++ ws)
+  append_edits n ws fits part =
+      let k = simp (length-take, length-drop) at part in
+      let size : n ≡ length ws = omega arith in
+      let long = length-paste m count ws n fits (omega arith) in
+      rw (put_mid-paste count ((count + n) - count) m ws ws n refl (omega arith) size) (record {
+        size = long;
+        fits = rw long fits;
+        list = take-paste m count ws n (omega arith) (omega arith) ∙ ap (λ vs. take count m ++ vs) (take_all n ws (omega arith));
+        past = drop-paste m count ws n (omega arith) (omega arith);
+      })
+
+-- what all have, all but one have
+pub all_removed : {W : Type 0} (P : W → Type 0) (xs : List W) (i : ℕ) → All P xs → All P (remove xs i)
+all_removed P xs i all = All-append P (take i xs) (drop (suc i) xs) (All-take P i xs all) (All-drop P (suc i) xs all)
+
+-- what all elements of the new list have
+pub all_edited : {W : Type 0} (P : W → Type 0) {old new ws : List W} {count : ℕ} → Edited old new count ws → All P ws → All P (take count new)
+all_edited P e all = subst (All P) (sym e.list) all
+
+-- a draft whose records mean waits by f
+abbrev pub drafted : {S : Type 0} → (Wait S → PlainWait) → ℕ → ℕ → List (Wait S) → Plan S
+drafted f n count m = record { fixed = false; events = n; waits = map f (take count m); memory = m }
+
+-- an edit of the records changes the plan
+pub edit_changes : {S : Type 0} (f : Wait S → PlainWait) (n k count : ℕ) {old new ws : List (Wait S)} {vs : List PlainWait} → Edited old new count ws → map f ws ≡ vs → Changed (drafted f n k old) (drafted f n count new) vs
+edit_changes f n k count {old} {new} {ws} {vs} e is =
+    let l : length vs ≡ count = ap length (sym is) ∙ length-map ws f ∙ ap length (sym e.list) ∙ length-take-le count new e.fits in
+    record { state = refl; events = refl; waits = ap (map f) e.list ∙ is; size = e.size; past = rw l e.past }

@@ -1,6 +1,7 @@
 -- The planner's calls by their meaning, and what the answers are.
-use Rattle.std.specs.Prelude.{ℕ, Bool, true, false, List, ℤ, Ok, Err, Result}
-use Rattle.amount.specs.Rows.{Row, places}
+use Rattle.std.specs.Prelude.{ℕ, Bool, true, false, List, ℤ, Ok, Err, Result, is_ok}
+use Rattle.amount.specs.Rows.{places}
+use Rattle.amount.specs.Scales.{Scale}
 use Rattle.network.specs.declared.Period.{Period}
 use Rattle.network.specs.Networks.{PlainWait, plain}
 use Rattle.engine.specs.declared.EngineFault.{EngineFault}
@@ -9,8 +10,10 @@ use Rattle.plan.specs.declared.calls.Call.{Call}
 use Rattle.plan.specs.declared.calls.Call.TheVariants.{Put, Retime, DropWait, Fix, Reopen, Solve}
 use Rattle.plan.specs.declared.calls.FiledCall.{FiledCall}
 use Rattle.plan.specs.declared.calls.FiledCall.TheVariants.{TakeIn, Other}
-use Rattle.plan.specs.declared.calls.Answer.{Answer}
-use Rattle.plan.specs.declared.calls.Answer.TheVariants.{Number, Came, Done, Shown, Declined, Unsolved, Barred}
+use Rattle.plan.specs.declared.calls.Reply.{Reply}
+use Rattle.plan.specs.declared.calls.Reply.TheVariants.{Number, Came, Done, Shown}
+use Rattle.plan.specs.declared.calls.Declined.{Declined}
+use Rattle.plan.specs.declared.calls.Declined.TheVariants.{Plan, Engine}
 
 -- a call; amounts are lists of places, and a file's bytes are taken in for the measure of a number
 pub data PlainCall : Type 0 where
@@ -22,19 +25,19 @@ pub data PlainCall : Type 0 where
   reopen : PlainCall
   solve : PlainCall
 
--- what a call means in a measure, whose amounts stand for rows of d places
-abbrev pub plain_call : {X : Type 0} (d : ℕ) → (X → Row d) → Call X → PlainCall
-plain_call d row (Put w) = put (plain d row w)
-plain_call d row (Retime i x) = retime i (places d (row x))
-plain_call d row (DropWait i) = drop_wait i
-plain_call d row Fix = fix
-plain_call d row Reopen = reopen
-plain_call d row Solve = solve
+-- what a call means in a measure
+abbrev pub plain_call : {X : Type 0} → Scale X → Call X → PlainCall
+plain_call m (Put w) = put (plain m w)
+plain_call m (Retime i x) = retime i (places m.places (m.row x))
+plain_call m (DropWait i) = drop_wait i
+plain_call m Fix = fix
+plain_call m Reopen = reopen
+plain_call m Solve = solve
 
 -- and what a call means in a measure that has a number in files
-abbrev pub plain_filed_call : {X : Type 0} → ℕ → (d : ℕ) → (X → Row d) → FiledCall X → PlainCall
-plain_filed_call m d row (TakeIn bytes) = take_in m bytes.now
-plain_filed_call m d row (Other c) = plain_call d row c
+abbrev pub plain_filed_call : {X : Type 0} → ℕ → Scale X → FiledCall X → PlainCall
+plain_filed_call number m (TakeIn bytes) = take_in number bytes.now
+plain_filed_call number m (Other c) = plain_call m c
 
 -- what a draft (false) and a fixed plan (true) allow
 abbrev pub allowed : Bool → PlainCall → Bool
@@ -53,29 +56,28 @@ allowed true fix = false
 allowed true reopen = true
 allowed true solve = true
 
--- the answers that results make
+-- the answer to a call: a reply, or why it is declined
+abbrev pub Answer : Type 0 → Type 0
+Answer X = Result (Reply X) Declined
+
+-- the answer that a result makes, by the reply that tells its value and the reason that holds its fault
+abbrev pub answered : {X A E : Type 0} → (A → Reply X) → (E → Declined) → Result A E → Answer X
+answered reply reason (Ok x) = Ok (reply x)
+answered reply reason (Err e) = Err (reason e)
+
+-- the answers to a put, to a take in, to an edit without a number, and to a solve
 abbrev pub by_number : {X : Type 0} → Result ℕ PlanFault → Answer X
-by_number (Ok i) = Number i
-by_number (Err e) = Declined e
+by_number = answered Number Plan
 
 abbrev pub by_count : {X : Type 0} → Result ℕ PlanFault → Answer X
-by_count (Ok k) = Came k
-by_count (Err e) = Declined e
+by_count = answered Came Plan
 
 abbrev pub by_done : {X : Type 0} → Result (Unit {0}) PlanFault → Answer X
-by_done (Ok u) = Done
-by_done (Err e) = Declined e
+by_done = answered (λ u. Done) Plan
 
 abbrev pub by_period : {X : Type 0} → Result (Period X) EngineFault → Answer X
-by_period (Ok p) = Shown p
-by_period (Err e) = Unsolved e
+by_period = answered Shown Engine
 
 -- whether an answer accepts the call
 abbrev pub accepts : {X : Type 0} → Answer X → Bool
-accepts (Number i) = true
-accepts (Came k) = true
-accepts Done = true
-accepts (Shown p) = true
-accepts (Declined e) = false
-accepts (Unsolved e) = false
-accepts Barred = false
+accepts = is_ok

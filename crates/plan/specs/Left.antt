@@ -2,10 +2,9 @@
 use Rattle.std.specs.Prelude.{ℕ, cond, List, [], ◌∷◌, ◌++◌}
 use Rattle.std.specs.List.{remove}
 use Rattle.network.specs.Networks.{PlainWait}
-use Rattle.plan.specs.declared.calls.Answer.{Answer}
 use Rattle.plan.specs.Rules.{added, retimed}
 use Rattle.plan.specs.Taking.{waits_in}
-use Rattle.plan.specs.Calls.{PlainCall, put, retime, drop_wait, take_in, fix, reopen, solve, accepts}
+use Rattle.plan.specs.Calls.{PlainCall, put, retime, drop_wait, take_in, fix, reopen, solve, Answer, accepts}
 
 -- those of the calls that were accepted
 abbrev pub accepted : {X : Type 0} → List PlainCall → List (Answer X) → List PlainCall
@@ -18,7 +17,7 @@ abbrev pub edited : ℕ → List PlainWait → PlainCall → List PlainWait
 edited d ws (put w) = added ws w
 edited d ws (retime i a) = retimed ws i a
 edited d ws (drop_wait i) = remove ws i
-edited d ws (take_in m bytes) = ws ++ waits_in d bytes
+edited d ws (take_in number bytes) = ws ++ waits_in d bytes
 edited d ws fix = ws
 edited d ws reopen = ws
 edited d ws solve = ws

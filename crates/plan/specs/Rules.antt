@@ -3,9 +3,10 @@ use Rattle.std.specs.Prelude.{◌≡◌, ℕ, ◌+◌, ◌<◌, ◌≤◌, ◌�
 use Rattle.std.specs.List.{remove}
 use Rattle.amount.specs.Rows.{first_beyond}
 use Rattle.amount.specs.Spans.{span}
-use Rattle.network.specs.Networks.{PlainWait, wait_at}
+use Rattle.network.specs.Networks.{PlainWait, Graph, wait_at}
 use Rattle.plan.specs.declared.fault.PlanFault.{PlanFault}
 use Rattle.plan.specs.declared.fault.PlanFault.TheVariants.{UnknownEvent, OutOfSpan, Full, NoSuchWait, BadCount, NotTakenIn}
+use Rattle.plan.specs.Records.{Between}
 use Rattle.plan.specs.Plans.{Plan, room}
 
 -- q is p with these waits: records past them stay, and so does all else
@@ -35,7 +36,7 @@ Outside a k = first_beyond span 0 a ≡ Some k
 module _ {S : Type 0} (p : Plan S) where
   -- start and end are events of the plan
   abbrev pub Known : PlainWait → Type 0
-  Known w = (w.start < p.events) × (w.end < p.events)
+  Known = Between p.events
 
   pub record PutAccepted (w : PlainWait) (i : ℕ) (q : Plan S) : Type 0 where
     pub known : Known w
@@ -80,7 +81,7 @@ module _ {S : Type 0} (p : Plan S) where
   Drops i (Ok u) q = (i < length p.waits) × Changed p q (remove p.waits i)
   Drops i (Err e) q = (q ≡ p) × (e ≡ NoSuchWait i) × (length p.waits ≤ i)
 
-  -- all of these waits, of a network of n events, are added in order, or none; the event count is tested before the room
-  abbrev pub Appends : ℕ → List PlainWait → Result ℕ PlanFault → Plan S → Type 0
-  Appends n ws (Ok k) q = (n ≡ p.events) × (length p.waits + length ws ≤ room p) × (k ≡ length ws) × Changed p q (p.waits ++ ws)
-  Appends n ws (Err e) q = (q ≡ p) × (((n ≢ p.events) × (e ≡ BadCount n)) ⊎ ((n ≡ p.events) × (room p < length p.waits + length ws) × (e ≡ Full (length p.waits))))
+  -- all waits of a network are added in order, or none; the event count is tested before the room
+  abbrev pub Appends : Graph → Result ℕ PlanFault → Plan S → Type 0
+  Appends g (Ok k) q = (g.events ≡ p.events) × (length p.waits + length g.waits ≤ room p) × (k ≡ length g.waits) × Changed p q (p.waits ++ g.waits)
+  Appends g (Err e) q = (q ≡ p) × (((g.events ≢ p.events) × (e ≡ BadCount g.events)) ⊎ ((g.events ≡ p.events) × (room p < length p.waits + length g.waits) × (e ≡ Full (length p.waits))))

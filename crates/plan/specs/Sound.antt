@@ -1,51 +1,32 @@
 -- The waits of a plan are those of a network. The proofs stand here because every fixed plan carries them.
-use Rattle.std.specs.Prelude.{◌≡◌, ℕ, zero, suc, ◌<◌, ◌≤◌, List, [], ◌∷◌, length, get_or, take, slice_index_or}
-use Rattle.std.proofs.Common.{sym, subst, ◌∙◌, ap, arith, length-take, length-take-le, get_or-take}
-use Rattle.std.proofs.lemmas.List.{get_or-map, length-map}
+use Rattle.std.specs.Prelude.{ℕ, zero, suc, ◌≤◌, List, take, slice_index_or}
+use Rattle.std.specs.List.{All}
+use Rattle.std.proofs.Common.{arith, length-take}
+use Rattle.std.proofs.lemmas.List.{length-map}
+use Rattle.std.proofs.lemmas.List.Elements.{All-map}
+use Rattle.amount.specs.declared.measure.Scaled.{Ghosts}
+use Rattle.amount.specs.declared.spanned.Spanned.{Spanned}
 use Rattle.amount.specs.Rows.{Row, places, Within}
 use Rattle.amount.specs.Spans.{span}
 use Rattle.network.specs.declared.Wait.{Wait}
-use Rattle.network.specs.Networks.{PlainWait, plain, wait_at, AllWithin, Sound}
-use Rattle.plan.specs.Records.{Starts, Ends}
-use Rattle.plan.specs.Plans.{meant}
+use Rattle.network.specs.Networks.{PlainWait, AllWithin, Owed, graph}
+use Rattle.plan.specs.Records.{Between, recorded, meant}
 
 -- a row within b has every place within it
 within_all : (b d : ℕ) (r : Row d) → Within d b r → AllWithin b (places d r)
 within_all b zero r h = tt
 within_all b (suc d) r h = (h.0, h.1, within_all b d r.1 h.2)
 
--- an element of a list that has one
-one : {W : Type 0} (ws : List W) → 0 < length ws → W
-one [] h = absurd (omega arith)
-one (w ∷ ws) h = w
+-- the records of a list of waits mean a network's
+pub records_owed : {X : Type 0} {G : Ghosts X} (n count : ℕ) (m : List (Wait (Spanned X G))) → n ≤ 1000 → count ≤ 20000 → All (Between n) (take count m) → Owed (graph n (meant count m))
+records_owed {G = G} n count m few short known = record {
+  few = few;
+  short = simp length-map (omega (arith, length-take count m));
+  sound = record { starts = λ e h. (between e _ h).0; ends = λ e h. (between e _ h).1; spans = λ e h. near e _ h };
+}
+  where
+    between : All (Between n) (meant count m)
+    between = All-map (Between n) recorded (take count m) known
 
-module _ {S : Type 0} (d : ℕ) (row : S → Row d) (count : ℕ) (m : List (Wait S)) where
-  -- there are no more waits than records
-  pub meant_short : count ≤ 20000 → length (meant d row count m) ≤ 20000
-  meant_short h = simp length-map (omega (arith, length-take count m))
-
-  module _ (fits : count ≤ length m) where
-    -- how many waits the records mean
-    pub meant_length : length (meant d row count m) ≡ count
-    meant_length = length-map (take count m) _ ∙ length-take-le count m fits
-
-    -- the wait that a record means
-    pub meant_at : (e : ℕ) (w : Wait S) → e < count → wait_at (meant d row count m) e ≡ plain d row (slice_index_or m e w)
-    meant_at e w h =
-        let l : e < length (take count m) = subst (λ k. e < k) (sym (length-take-le count m fits)) h in
-        get_or-map (plain d row) (take count m) e w _ l ∙ ap (plain d row) (get_or-take count m e w h)
-
-    -- the record that wait e is read from
-    held : (e : ℕ) → e < length (meant d row count m) → (w : Wait S) × (e < count) × (wait_at (meant d row count m) e ≡ plain d row (slice_index_or m e w))
-    held e h =
-        let l : e < count = subst (λ k. e < k) meant_length h in
-        let w : Wait S = one m (omega arith) in
-        (w, l, meant_at e w l)
-
-    -- they start and end at the plan's events, and lie in the span
-    pub meant_sound : (n : ℕ) → Starts n count m → Ends n count m → ((s : S) → Within d span (row s)) → Sound n (meant d row count m)
-    meant_sound n starts ends near = record {
-      starts = λ e h. let r = held e h in subst (λ (v : PlainWait). v.start < n) (sym r.2) (starts e r.0 r.1);
-      ends = λ e h. let r = held e h in subst (λ (v : PlainWait). v.end < n) (sym r.2) (ends e r.0 r.1);
-      spans = λ e h. let r = held e h in subst (λ (v : PlainWait). AllWithin span v.amount) (sym r.2) (within_all span d (row (get_or m e r.0).amount) (near (get_or m e r.0).amount));
-    }
+    near : All (λ (w : PlainWait). AllWithin span w.amount) (meant count m)
+    near = All-map (λ (w : PlainWait). AllWithin span w.amount) recorded (take count m) (λ k d h. within_all span G.scale.places _ (slice_index_or (take count m) k d).amount.near)

@@ -1,6 +1,6 @@
 -- Taking in the waits of a supplier's file.
 use Rattle.std.specs.Prelude.{◌≡◌, ℕ, ◌⊎◌, List, Err, Result}
-use Rattle.network.specs.Networks.{PlainWait}
+use Rattle.network.specs.Networks.{PlainWait, graph}
 use Rattle.file.specs.Words.{words_of}
 use Rattle.file.specs.Contents.{contents}
 use Rattle.file.specs.Opening.{Opens}
@@ -18,4 +18,4 @@ waits_in d bytes = (contents d (words_of bytes)).waits
 
 -- the bytes open for measure m and their waits are added, all or none; or the bytes do not open
 abbrev pub TakesIn : {S : Type 0} → ℕ → ℕ → Plan S → List ℕ → Result ℕ PlanFault → Plan S → Type 0
-TakesIn m d p bytes r q = (Opens m d bytes × Appends p (events_in d bytes) (waits_in d bytes) r q) ⊎ ((Opens m d bytes → ⊥) × (r ≡ Err NotTakenIn) × (q ≡ p))
+TakesIn m d p bytes r q = (Opens m d bytes × Appends p (graph (events_in d bytes) (waits_in d bytes)) r q) ⊎ ((Opens m d bytes → ⊥) × (r ≡ Err NotTakenIn) × (q ≡ p))

@@ -1,240 +1,116 @@
-// Calls as a planner makes them, one by one, on a plan in either state.
-ghost use Rattle.std.specs.Prelude.{◌≡◌};
-ghost use Rattle.engine.specs.Solved.{memory};
-ghost use Rattle.plan.specs.Plans.{draft_plan, fixed_plan, any_plan, state_plan, opened};
-ghost use Rattle.plan.specs.Calls.{take_in, plain_call, plain_filed_call, by_number, by_count, by_done, by_period};
+//! Calls as a planner makes them, one by one, on a plan in either state.
+ghost use Rattle.std.specs.Prelude.{◌≡◌, ◌≢◌};
+ghost use Rattle.engine.specs.Workspaces.{held, SameSlices};
+ghost use Rattle.plan.specs.declared.calls.Call.TheVariants.{Fix};
+ghost use Rattle.plan.specs.Plans.{draft_plan, fixed_plan, plan_of, opened};
+ghost use Rattle.plan.specs.Calls.{take_in, plain_call, plain_filed_call};
 ghost use Rattle.plan.specs.Histories.{Follows, FollowsApart};
 ghost use Rattle.plan.specs.Law.{Law};
 
-use crate::calls::{Answer, Call, FiledCall};
-use crate::fault::PlanFault;
-use crate::state::State;
-use crate::{AnyPlan, Draft, Fixed};
+use crate::calls::{Answer, Call, Declined, FiledCall, Reply};
+use crate::{AnyPlan, Draft, Fixed, InState};
 use amount::filed::Filed;
-use amount::measure::Measure;
-use engine::EngineFault;
-use network::{Period, Wait};
+use amount::measure::{Measure, Scaled};
+use amount::spanned::Spanned;
+use engine::Workspace;
+use network::Wait;
 
-// The answer to a put.
-fn numbered<X: Measure>(r: Result<u32, PlanFault>) -> Answer<X>
-    ensures { result ≡ by_number r }
+/// Opens a plan over this memory, as a draft.
+pub fn open_plan<'a, X: Measure>(n: u32, memory: &'a mut [Wait<Spanned<X>>]) -> AnyPlan<'a, X>
+    ensures { plan_of result ≡ opened n memory.old }
 {
-    match r {
-        Ok(i) => Answer::Number(i),
-        Err(e) => Answer::Declined(e),
-    }
+    InState::Editing(Draft::open(n, memory))
 }
 
-// The answer to a take in.
-fn counted<X: Measure>(r: Result<u32, PlanFault>) -> Answer<X>
-    ensures { result ≡ by_count r }
+// A call that leaves a draft a draft.
+fn edit<X: Measure>(draft: &mut Draft<'_, X>, call: &Call<X>) -> Answer<X>
+    ensures { (call.now ≢ Fix) → FollowsApart X.scale (draft_plan draft.old) (plain_call X.scale call.now) result (draft_plan draft.new) }
 {
-    match r {
-        Ok(k) => Answer::Came(k),
-        Err(e) => Answer::Declined(e),
+    match call {
+        Call::Put(wait) => Ok(Reply::Number(draft.put(*wait)?)),
+        Call::Retime(i, amount) => {
+            draft.retime(*i, *amount)?;
+            Ok(Reply::Done)
+        }
+        Call::DropWait(i) => {
+            draft.drop_wait(*i)?;
+            Ok(Reply::Done)
+        }
+        Call::Fix | Call::Reopen | Call::Solve => Err(Declined::Barred),
     }
-}
-
-// The answer to an edit that has no number.
-fn finished<X: Measure>(r: Result<(), PlanFault>) -> Answer<X>
-    ensures { result ≡ by_done r }
-{
-    match r {
-        Ok(()) => Answer::Done,
-        Err(e) => Answer::Declined(e),
-    }
-}
-
-// The answer to a solve.
-fn shown<X: Measure>(r: Result<Period<X>, EngineFault>) -> Answer<X>
-    ensures { result ≡ by_period r }
-{
-    match r {
-        Ok(p) => Answer::Shown(p),
-        Err(e) => Answer::Unsolved(e),
-    }
-}
-
-// A draft as a plan in either state.
-fn of_draft<'a, X: Measure>(draft: Draft<'a, X>) -> AnyPlan<'a, X>
-    ensures plan { any_plan X.Measure.places X.Measure.row X.Measure.wide result ≡ draft_plan X.Measure.places X.Measure.row X.Measure.wide draft.entry }
-{
-    let Draft {
-        events,
-        count,
-        memory,
-    } = draft;
-    AnyPlan {
-        fixed: false,
-        events,
-        count,
-        memory,
-    }
-}
-
-// A fixed plan as a plan in either state.
-fn of_fixed<'a, X: Measure>(fixed: Fixed<'a, X>) -> AnyPlan<'a, X>
-    ensures plan { any_plan X.Measure.places X.Measure.row X.Measure.wide result ≡ fixed_plan X.Measure.places X.Measure.row X.Measure.wide fixed.entry }
-{
-    let Fixed {
-        events,
-        count,
-        memory,
-    } = fixed;
-    AnyPlan {
-        fixed: true,
-        events,
-        count,
-        memory,
-    }
-}
-
-// A plan by its state.
-fn state_of<'a, X: Measure>(plan: AnyPlan<'a, X>) -> State<'a, X>
-    ensures { state_plan X.Measure.places X.Measure.row X.Measure.wide result ≡ any_plan X.Measure.places X.Measure.row X.Measure.wide plan.entry }
-{
-    let AnyPlan {
-        fixed,
-        events,
-        count,
-        memory,
-    } = plan;
-    if fixed {
-        State::Settled(Fixed {
-            events,
-            count,
-            memory,
-        })
-    } else {
-        State::Editing(Draft {
-            events,
-            count,
-            memory,
-        })
-    }
-}
-
-// Opens a plan over this memory, as a draft.
-pub fn open_plan<'a, X: Measure>(n: u32, memory: &'a mut [Wait<X::Spanned>]) -> AnyPlan<'a, X>
-    ensures { any_plan X.Measure.places X.Measure.row X.Measure.wide result ≡ opened n memory.old }
-{
-    of_draft(Draft::open(n, memory))
 }
 
 // A call to a draft.
-fn on_draft<'a, X: Measure>(
-    draft: Draft<'a, X>,
-    call: &Call<X>,
-    answer: &mut Answer<X>,
-) -> AnyPlan<'a, X>
-    ensures { FollowsApart X.Measure.places X.Measure.row X.Measure.order (draft_plan X.Measure.places X.Measure.row X.Measure.wide draft.entry) (plain_call X.Measure.places X.Measure.row call.now) answer.new (any_plan X.Measure.places X.Measure.row X.Measure.wide result) }
+fn on_draft<'a, X: Measure>(mut draft: Draft<'a, X>, call: &Call<X>) -> (AnyPlan<'a, X>, Answer<X>)
+    ensures { FollowsApart X.scale (draft_plan draft.entry) (plain_call X.scale call.now) result.1 (plan_of result.0) }
 {
-    let mut draft = draft;
-    match call {
-        Call::Put(wait) => {
-            *answer = numbered(draft.put(*wait));
-            of_draft(draft)
-        }
-        Call::Retime(i, amount) => {
-            *answer = finished(draft.retime(*i, *amount));
-            of_draft(draft)
-        }
-        Call::DropWait(i) => {
-            *answer = finished(draft.drop_wait(*i));
-            of_draft(draft)
-        }
-        Call::Fix => {
-            *answer = Answer::Done;
-            of_fixed(draft.fix())
-        }
-        Call::Reopen | Call::Solve => {
-            *answer = Answer::Barred;
-            of_draft(draft)
-        }
+    if let Call::Fix = call {
+        return (InState::Settled(draft.fix()), Ok(Reply::Done));
     }
+    let answer = edit(&mut draft, call);
+    (InState::Editing(draft), answer)
 }
 
 // A call to a fixed plan.
 fn on_fixed<'a, X: Measure>(
     fixed: Fixed<'a, X>,
     call: &Call<X>,
-    rows: &mut [X],
-    marks: &mut [u32],
-    leaves: &mut [X],
-    circle: &mut [u32],
-    answer: &mut Answer<X>,
-) -> AnyPlan<'a, X>
-    ensures { Follows X.Measure.places X.Measure.row X.Measure.order (fixed_plan X.Measure.places X.Measure.row X.Measure.wide fixed.entry) (memory rows.old marks.old leaves.old circle.old) (plain_call X.Measure.places X.Measure.row call.now) answer.new (any_plan X.Measure.places X.Measure.row X.Measure.wide result) (memory rows.new marks.new leaves.new circle.new) }
+    space: &mut Workspace<'_, X>,
+) -> (AnyPlan<'a, X>, Answer<X>)
+    ensures rule { Follows X.scale (fixed_plan fixed.entry) (held space.old) (plain_call X.scale call.now) result.1 (plan_of result.0) (held space.new) }
+    ensures lent { SameSlices space.old space.new }
 {
-    match call {
-        Call::Reopen => {
-            *answer = Answer::Done;
-            of_draft(fixed.reopen())
-        }
-        Call::Solve => {
-            *answer = shown(fixed.solve(rows, marks, leaves, circle));
-            of_fixed(fixed)
-        }
-        Call::Put(_) | Call::Retime(_, _) | Call::DropWait(_) | Call::Fix => {
-            *answer = Answer::Barred;
-            of_fixed(fixed)
-        }
-    }
+    let answer = match call {
+        Call::Reopen => return (InState::Editing(fixed.reopen()), Ok(Reply::Done)),
+        Call::Solve => fixed.solve(space).map(Reply::Shown).map_err(Declined::from),
+        Call::Put(_) | Call::Retime(_, _) | Call::DropWait(_) | Call::Fix => Err(Declined::Barred),
+    };
+    (InState::Settled(fixed), answer)
 }
 
-// Makes a call on a plan, writes its answer, and gives the plan back.
+// What is still lent is said by clauses, as in the engine.
+/// Makes a call on a plan: the plan after it, and the answer.
 pub fn apply<'a, X: Measure>(
     plan: AnyPlan<'a, X>,
     call: &Call<X>,
-    rows: &mut [X],
-    marks: &mut [u32],
-    leaves: &mut [X],
-    circle: &mut [u32],
-    answer: &mut Answer<X>,
-) -> AnyPlan<'a, X>
-    ensures rule { Follows X.Measure.places X.Measure.row X.Measure.order (any_plan X.Measure.places X.Measure.row X.Measure.wide plan.entry) (memory rows.old marks.old leaves.old circle.old) (plain_call X.Measure.places X.Measure.row call.now) answer.new (any_plan X.Measure.places X.Measure.row X.Measure.wide result) (memory rows.new marks.new leaves.new circle.new) }
-    ensures law { Law X.Measure.places X.Measure.row X.Measure.order (any_plan X.Measure.places X.Measure.row X.Measure.wide plan.entry) (memory rows.old marks.old leaves.old circle.old) (plain_call X.Measure.places X.Measure.row call.now) answer.new (any_plan X.Measure.places X.Measure.row X.Measure.wide result) (memory rows.new marks.new leaves.new circle.new) }
+    space: &mut Workspace<'_, X>,
+) -> (AnyPlan<'a, X>, Answer<X>)
+    ensures rule { Follows X.scale (plan_of plan.entry) (held space.old) (plain_call X.scale call.now) result.1 (plan_of result.0) (held space.new) }
+    ensures law { Law X.scale (plan_of plan.entry) (held space.old) (plain_call X.scale call.now) result.1 (plan_of result.0) (held space.new) }
+    ensures lent { SameSlices space.old space.new }
 {
-    match state_of(plan) {
-        State::Editing(draft) => on_draft(draft, call, answer),
-        State::Settled(fixed) => on_fixed(fixed, call, rows, marks, leaves, circle, answer),
+    match plan {
+        InState::Editing(draft) => on_draft(draft, call),
+        InState::Settled(fixed) => on_fixed(fixed, call, space),
     }
 }
 
 // A take in on a draft.
-fn take_in<'a, X: Filed>(
-    draft: Draft<'a, X>,
-    bytes: &[u8],
-    answer: &mut Answer<X>,
-) -> AnyPlan<'a, X>
-    ensures { FollowsApart X.Measure.places X.Measure.row X.Measure.order (draft_plan X.Measure.places X.Measure.row X.Measure.wide draft.entry) (take_in X.Filed.number bytes.now) answer.new (any_plan X.Measure.places X.Measure.row X.Measure.wide result) }
+fn take_in<X: Filed>(draft: &mut Draft<'_, X>, bytes: &[u8]) -> Answer<X>
+    ensures { FollowsApart X.scale (draft_plan draft.old) (take_in X.NUMBER bytes.now) result (draft_plan draft.new) }
 {
-    let mut draft = draft;
-    *answer = counted(draft.take_in(bytes));
-    of_draft(draft)
+    Ok(Reply::Came(draft.take_in(bytes)?))
 }
 
-// Makes a call on a plan in a measure that files hold, writes its answer, and gives the plan back.
+/// Makes a call on a plan in a measure that files hold: the plan after it, and the answer.
+// Beside `apply`, since a measure that files do not hold has no take in: its calls are another type.
 pub fn apply_filed<'a, 'b, X: Filed>(
     plan: AnyPlan<'a, X>,
     call: &FiledCall<'b, X>,
-    rows: &mut [X],
-    marks: &mut [u32],
-    leaves: &mut [X],
-    circle: &mut [u32],
-    answer: &mut Answer<X>,
-) -> AnyPlan<'a, X>
-    ensures rule { Follows X.Measure.places X.Measure.row X.Measure.order (any_plan X.Measure.places X.Measure.row X.Measure.wide plan.entry) (memory rows.old marks.old leaves.old circle.old) (plain_filed_call X.Filed.number X.Measure.places X.Measure.row call.now) answer.new (any_plan X.Measure.places X.Measure.row X.Measure.wide result) (memory rows.new marks.new leaves.new circle.new) }
-    ensures law { Law X.Measure.places X.Measure.row X.Measure.order (any_plan X.Measure.places X.Measure.row X.Measure.wide plan.entry) (memory rows.old marks.old leaves.old circle.old) (plain_filed_call X.Filed.number X.Measure.places X.Measure.row call.now) answer.new (any_plan X.Measure.places X.Measure.row X.Measure.wide result) (memory rows.new marks.new leaves.new circle.new) }
+    space: &mut Workspace<'_, X>,
+) -> (AnyPlan<'a, X>, Answer<X>)
+    ensures rule { Follows X.scale (plan_of plan.entry) (held space.old) (plain_filed_call X.NUMBER X.scale call.now) result.1 (plan_of result.0) (held space.new) }
+    ensures law { Law X.scale (plan_of plan.entry) (held space.old) (plain_filed_call X.NUMBER X.scale call.now) result.1 (plan_of result.0) (held space.new) }
+    ensures lent { SameSlices space.old space.new }
 {
     match call {
-        FiledCall::TakeIn(bytes) => match state_of(plan) {
-            State::Editing(draft) => take_in(draft, bytes, answer),
-            State::Settled(fixed) => {
-                *answer = Answer::Barred;
-                of_fixed(fixed)
+        FiledCall::TakeIn(bytes) => match plan {
+            InState::Editing(mut draft) => {
+                let answer = take_in(&mut draft, bytes);
+                (InState::Editing(draft), answer)
             }
+            InState::Settled(fixed) => (InState::Settled(fixed), Err(Declined::Barred)),
         },
-        FiledCall::Other(call) => apply(plan, call, rows, marks, leaves, circle, answer),
+        FiledCall::Other(call) => apply(plan, call, space),
     }
 }

@@ -1,57 +1,37 @@
-// Plans: a list of waits that a planner edits as a draft, fixes and solves.
+//! Plans: lists of waits that a planner edits as drafts, fixes and solves.
 
 #![tactic(auto)]
 
-ghost use Rattle.std.specs.Prelude.{◌≤◌, length};
-ghost use Rattle.plan.specs.Records.{Starts, Ends};
-
-use amount::measure::Measure;
-use network::Wait;
+use crate::waits::WaitList;
+use amount::measure::Scaled;
 
 pub mod applying;
 pub mod calls;
 mod edits;
 pub mod fault;
 pub mod solving;
-mod state;
 mod taking;
+mod waits;
 
-// A draft: its event count, and its waits in the first records of the memory lent to it.
+/// A draft: its waits can be edited.
 #[derive(Drop)]
-pub struct Draft<'a, X: Measure> {
-    events: u32,
-    count: u32,
-    memory: &'a mut [Wait<X::Spanned>],
-    ghost few: { events ≤ 1000 },
-    ghost short: { count ≤ 20000 },
-    ghost fits: { count ≤ length memory.now },
-    ghost starts: { Starts events count memory.now },
-    ghost ends: { Ends events count memory.now },
+pub struct Draft<'a, X: Scaled> {
+    list: WaitList<'a, X>,
 }
 
-// A fixed plan: the same, and no edit reaches it until it is reopened.
+/// A fixed plan: no edit reaches it until it is reopened.
 #[derive(Drop)]
-pub struct Fixed<'a, X: Measure> {
-    events: u32,
-    count: u32,
-    memory: &'a mut [Wait<X::Spanned>],
-    ghost few: { events ≤ 1000 },
-    ghost short: { count ≤ 20000 },
-    ghost fits: { count ≤ length memory.now },
-    ghost starts: { Starts events count memory.now },
-    ghost ends: { Ends events count memory.now },
+pub struct Fixed<'a, X: Scaled> {
+    list: WaitList<'a, X>,
 }
 
-// A plan in either state.
+/// One of the two states of a plan.
+// The states are type arguments: with the two structs named here, callers at a given measure got no proof.
 #[derive(Drop)]
-pub struct AnyPlan<'a, X: Measure> {
-    fixed: bool,
-    events: u32,
-    count: u32,
-    memory: &'a mut [Wait<X::Spanned>],
-    ghost few: { events ≤ 1000 },
-    ghost short: { count ≤ 20000 },
-    ghost fits: { count ≤ length memory.now },
-    ghost starts: { Starts events count memory.now },
-    ghost ends: { Ends events count memory.now },
+pub enum InState<D, F> {
+    Editing(D),
+    Settled(F),
 }
+
+/// A plan in either state.
+pub type AnyPlan<'a, X> = InState<Draft<'a, X>, Fixed<'a, X>>;

@@ -1,72 +1,55 @@
-// Fixed plans: each is a network, and can be reopened.
+//! Fixed plans: each is a network, and can be reopened.
 ghost use Rattle.std.specs.Prelude.{◌≡◌};
-ghost use Rattle.engine.specs.Solved.{Solved, memory};
-ghost use Rattle.plan.specs.Plans.{draft_plan, fixed_plan, reopened, spanned_row};
-ghost use Rattle.plan.specs.Sound.{meant_short, meant_sound};
+ghost use Rattle.network.specs.Networks.{graph};
+ghost use Rattle.engine.specs.Solved.{Solved};
+ghost use Rattle.engine.specs.Workspaces.{held, SameSlices};
+ghost use Rattle.plan.specs.Records.{meant};
+ghost use Rattle.plan.specs.Plans.{draft_plan, fixed_plan, graph_of, reopened};
+ghost use Rattle.plan.specs.Sound.{records_owed};
 
 use crate::{Draft, Fixed};
-use amount::measure::Measure;
-use engine::EngineFault;
+use amount::measure::{Measure, Scaled};
+use engine::{EngineFault, Workspace};
 use network::{Network, Period, Wait};
 
-impl<'a, X: Measure> Network<X> for Fixed<'a, X> {
-    ghost events = { λ s. s.events };
+impl<'a, X: Scaled + Copy> Network<X> for Fixed<'a, X> {
+    ghost graph = { λ s. graph s.list.events (meant s.list.count s.list.memory.now) };
 
-    ghost waits = { λ s. (fixed_plan X.Measure.places X.Measure.row X.Measure.wide s).waits };
-
-    ghost few = { λ s. s.few };
-
-    ghost short = { λ s. meant_short X.Measure.places (spanned_row X.Measure.places X.Measure.row X.Measure.wide) s.count s.memory.now s.short };
-
-    ghost sound = { λ s. meant_sound X.Measure.places (spanned_row X.Measure.places X.Measure.row X.Measure.wide) s.count s.memory.now s.fits s.events s.starts s.ends X.Measure.near };
+    ghost owed = { λ s. records_owed s.list.events s.list.count s.list.memory.now s.list.few s.list.short s.list.known };
 
     fn event_count(&self) -> u32 {
-        self.events
+        self.list.events
     }
 
     fn wait_count(&self) -> u32 {
-        self.count
+        self.list.count
     }
 
     fn wait(&self, i: u32) -> Wait<X> {
-        let records: &[Wait<X::Spanned>] = &*self.memory;
-        let w = records[i as usize];
+        let Wait { start, end, amount } = self.list.memory[i as usize];
         Wait {
-            start: w.start,
-            end: w.end,
-            amount: X::widen(w.amount),
+            start,
+            end,
+            amount: amount.amount(),
         }
     }
 }
 
+// What is still lent is said by clauses, as in `edits` and in the engine.
 impl<'a, X: Measure> Fixed<'a, X> {
-    // The same plan as a draft.
+    /// The same plan as a draft.
     pub fn reopen(self) -> Draft<'a, X>
-        ensures plan { draft_plan X.Measure.places X.Measure.row X.Measure.wide result ≡ reopened (fixed_plan X.Measure.places X.Measure.row X.Measure.wide self.entry) }
-        ensures lender { result.memory.ghost_name ≡ self.entry.memory.ghost_name }
+        ensures plan { draft_plan result ≡ reopened (fixed_plan self.entry) }
+        ensures lender { result.list.memory.ghost_name ≡ self.entry.list.memory.ghost_name }
     {
-        let Fixed {
-            events,
-            count,
-            memory,
-        } = self;
-        Draft {
-            events,
-            count,
-            memory,
-        }
+        Draft { list: self.list }
     }
 
-    // The period of this plan's waits, the loop that shows it, and the departures.
-    pub fn solve(
-        &self,
-        rows: &mut [X],
-        marks: &mut [u32],
-        leaves: &mut [X],
-        circle: &mut [u32],
-    ) -> Result<Period<X>, EngineFault>
-        ensures { Solved X.Measure.places X.Measure.row X.Measure.order (fixed_plan X.Measure.places X.Measure.row X.Measure.wide self.now).events (fixed_plan X.Measure.places X.Measure.row X.Measure.wide self.now).waits result (memory rows.old marks.old leaves.old circle.old) (memory rows.new marks.new leaves.new circle.new) }
+    /// The period of this plan's waits, with the loop that shows it and the departures in this memory; or why there is none.
+    pub fn solve(&self, space: &mut Workspace<'_, X>) -> Result<Period<X>, EngineFault>
+        ensures solved { Solved X.scale (graph_of (fixed_plan self.now)) result (held space.old) (held space.new) }
+        ensures lent { SameSlices space.old space.new }
     {
-        engine::solve(&*self, rows, marks, leaves, circle)
+        engine::solve(self, space)
     }
 }

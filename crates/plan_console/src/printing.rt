@@ -1,91 +1,79 @@
-// What the console prints.
-use crate::lines::{MOST_PLACES, Unreadable};
-use amount::filed::Filed;
+//! What the console prints.
+
+use amount::filed::{Filed, MOST_PLACES};
+use arrayvec::ArrayVec;
 use network::Period;
-use plan::calls::Answer;
-use refusal::{Layer, Refusal};
-use std::io;
+use plan::calls::{Answer, Declined, Reply};
+use refusal::Refusal;
+use std::fmt;
 
-// The word for a layer.
-fn layer_word(layer: Layer) -> &'static str {
-    match layer {
-        Layer::File => "file",
-        Layer::Plan => "plan",
-        Layer::Engine => "engine",
-        Layer::Report => "report",
+// An amount: its places joined by commas.
+#[derive(Clone, Copy)]
+struct Row<X>(X);
+
+impl<X: Filed> fmt::Display for Row<X> {
+    fn fmt<W: fmt::Write>(&self, f: &mut fmt::Formatter<W>) -> fmt::Result {
+        let mut places = ArrayVec::from([0i64; MOST_PLACES]);
+        places.truncate(X::PLACES);
+        self.0.to_places(&mut places);
+        if let [first, rest @ ..] = places.as_slice() {
+            write!(f, "{first}")?;
+            for place in rest {
+                write!(f, ",{place}")?;
+            }
+        }
+        Ok(())
     }
 }
 
-// A refusal, as `refused NUMBER LAYER PLACE`.
-pub(crate) fn print_refusal(rt: &impl Print, refusal: Refusal) -> io::Result<()> {
-    let number = refusal.number;
-    let layer = layer_word(refusal.layer);
-    let place = refusal.place;
-    println!(rt; "refused {number} {layer} {place}")
-}
-
-// A line that cannot be read, with its number from 1.
-pub(crate) fn print_unreadable(rt: &impl Print, line: u64, what: Unreadable) -> io::Result<()> {
-    let words = what.words();
-    println!(rt; "unreadable line {line}: {words}")
-}
-
-// The places of an amount, joined by commas.
-fn print_row<X: Filed>(rt: &impl Print, x: X) -> io::Result<()> {
-    let mut places = [0i64; MOST_PLACES];
-    let d = X::place_count();
-    x.to_places(&mut places[0..d]);
-    let first = places[0];
-    print!(rt; "{first}")?;
-    for j in 1..d {
-        let place = places[j];
-        print!(rt; ",{place}")?;
-    }
-    Ok(())
-}
-
-// The period, the wait numbers of its loop, and the departure of each event.
-fn print_solution<X: Filed>(
-    rt: &impl Print,
+// A period, the wait numbers of its loop, and the departure of each event.
+#[derive(Clone, Copy)]
+struct Solution<'a, X> {
     period: Period<X>,
-    events: usize,
-    leaves: &[X],
-    circle: &[u32],
-) -> io::Result<()> {
-    print!(rt; "period ")?;
-    print_row(rt, period.total)?;
-    let count = period.count;
-    println!(rt; " / {count}")?;
-    print!(rt; "loop")?;
-    for e in circle.iter().take(count as usize) {
-        print!(rt; " {e}")?;
-    }
-    println!(rt; "")?;
-    for (v, x) in leaves.iter().take(events).enumerate() {
-        print!(rt; "leaves {v} ")?;
-        print_row(rt, *x)?;
-        println!(rt; "")?;
-    }
-    Ok(())
+    circle: &'a [u32],
+    leaves: &'a [X],
 }
 
-// The answer to a call.
-pub(crate) fn print_answer<X: Filed>(
-    rt: &impl Print,
-    answer: Answer<X>,
-    events: usize,
-    leaves: &[X],
-    circle: &[u32],
-) -> io::Result<()> {
-    match answer {
-        Answer::Number(i) => println!(rt; "wait {i}"),
-        Answer::Came(k) => println!(rt; "came {k}"),
-        Answer::Done => println!(rt; "done"),
-        Answer::Shown(period) => print_solution(rt, period, events, leaves, circle),
-        Answer::Declined(fault) => print_refusal(rt, fault.refusal()),
-        Answer::Unsolved(fault) => print_refusal(rt, fault.refusal()),
-        Answer::Barred => println!(rt;
-            "not in this state: a draft is edited and fixed, a fixed plan is solved and reopened"
-        ),
+impl<X: Filed> fmt::Display for Solution<'_, X> {
+    fn fmt<W: fmt::Write>(&self, f: &mut fmt::Formatter<W>) -> fmt::Result {
+        let Period { total, count } = self.period;
+        write!(f, "period {} / {count}\nloop", Row(total))?;
+        for wait in self.circle.iter().take(count as usize) {
+            write!(f, " {wait}")?;
+        }
+        for (event, departure) in self.leaves.iter().enumerate() {
+            write!(f, "\nleaves {event} {}", Row(*departure))?;
+        }
+        Ok(())
+    }
+}
+
+// The answer to a call, with the loop and the departures in the memory that the engine was lent.
+#[derive(Clone, Copy)]
+pub(crate) struct Told<'a, X> {
+    pub(crate) answer: Answer<X>,
+    pub(crate) circle: &'a [u32],
+    pub(crate) leaves: &'a [X],
+}
+
+impl<X: Filed> fmt::Display for Told<'_, X> {
+    fn fmt<W: fmt::Write>(&self, f: &mut fmt::Formatter<W>) -> fmt::Result {
+        match self.answer {
+            Ok(Reply::Number(wait)) => write!(f, "wait {wait}"),
+            Ok(Reply::Came(waits)) => write!(f, "came {waits}"),
+            Ok(Reply::Done) => write!(f, "done"),
+            Ok(Reply::Shown(period)) => Solution {
+                period,
+                circle: self.circle,
+                leaves: self.leaves,
+            }
+            .fmt(f),
+            Err(Declined::Plan(fault)) => Refusal::from(fault).fmt(f),
+            Err(Declined::Engine(fault)) => Refusal::from(fault).fmt(f),
+            Err(Declined::Barred) => write!(
+                f,
+                "not in this state: a draft is edited and fixed, a fixed plan is solved and reopened"
+            ),
+        }
     }
 }

@@ -1,27 +1,16 @@
-// Prints the report of a supplier's file that is read from standard input.
+//! Prints the report of a supplier's file that is read from standard input.
 
 #![tactic(auto)]
 
+use report::{MOST_BYTES, page_of};
 use std::io;
-use std::io::{Read, Write};
+use std::io::Read;
 
 // One byte more than the report takes, so that a longer file is refused as too big and not read to its end.
-const MOST_BYTES: u64 = 60_001;
-
-// The text space that the report asks for.
-const TEXT_SPACE: usize = 4096;
-
-fn print_report(rt: &HostRuntime) -> io::Result<()> {
-    let mut file = Vec::new(rt.alloc());
-    rt.stdin().take(MOST_BYTES).read_to_end(&mut file)?;
-    let mut text = [0u8; TEXT_SPACE];
-    let wrote = report::report(file.as_slice(), &mut text);
-    match usize::try_from(wrote) {
-        Ok(wrote) if wrote <= TEXT_SPACE => rt.stdout().write_all(&text[0..wrote]),
-        _ => Ok(()),
-    }
-}
+const MOST_READ: u64 = MOST_BYTES as u64 + 1;
 
 fn main(rt: HostRuntime) -> io::Result<()> {
-    print_report(&rt)
+    let mut file = Vec::new(rt.alloc());
+    rt.stdin().take(MOST_READ).read_to_end(&mut file)?;
+    rt.print(page_of(file.as_slice()))
 }

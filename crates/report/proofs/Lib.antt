@@ -1,3 +1,3 @@
 pub mod Multiples
-pub mod Writes
 pub mod RightPeriods
+pub mod Declined

@@ -1,15 +1,18 @@
 -- What a right period, its loop and its departures give to whoever prints them.
-use Rattle.std.proofs.Common.{◌≡◌, ℕ, zero, suc, ◌*◌, ◌<◌, ◌≤◌, Bool, List, [], ◌∷◌, map, length, get_or, take, sym, refl, ap, ◌∙◌, subst, arith}
+use Rattle.std.proofs.Common.{◌≡◌, ℕ, zero, suc, ◌*◌, ◌<◌, ◌≤◌, Bool, List, [], ◌∷◌, map, length, get_or, take, sym, ap, ◌∙◌, subst, arith}
 use Rattle.std.specs.List.{range_with_len}
 use Rattle.std.proofs.lemmas.List.{length-map, length-take-le, get_or-map, get_or-take, take-map}
+use Rattle.std.proofs.lemmas.Simd.{map-map}
 use Rattle.std.proofs.lemmas.List.FromFn.{fill_by_all}
 use Rattle.amount.specs.Rows.{Row, places, zero_row, Within, OrderLaws}
+use Rattle.amount.specs.Scales.{Scale}
 use Rattle.amount.specs.Spans.{span}
 use Rattle.amount.specs.Groups.{row_group}
 use Rattle.amount.proofs.Bounds.{within_more}
-use Rattle.network.specs.Networks.{PlainWait, Sound}
+use Rattle.network.specs.Networks.{Graph, Sound}
 use Rattle.network.specs.Walks.{Net, net, Walk, count}
 use Rattle.network.specs.Walks.{Period as IsPeriod}
+use Rattle.network.proofs.Pigeon.{pigeon}
 use Rattle.engine.specs.Solved.{row_at}
 use Rattle.engine.proofs.Magnitudes.{amount_near, within_total}
 use Rattle.report.specs.Reports.{rows_of}
@@ -20,35 +23,38 @@ walk_known N u [] v w i h = absurd (omega arith)
 walk_known N u (e ∷ es) v w zero h = w.0
 walk_known N u (e ∷ es) v w (suc i) h = walk_known N (N.to e) es v w.2 i (omega arith)
 
-module _ {d : ℕ} {le : Row d → Row d → Bool} (o : OrderLaws d le) (n : ℕ) (ws : List PlainWait) (sound : Sound n ws) where
-  module _ (p : Row d) (q : ℕ) (es : List ℕ) (r : ℕ → Row d) (right : IsPeriod (row_group o) (net d n ws) p q es r) where
-    -- the count is the number of the loop's waits
-    pub counted : q ≡ length es
-    unfolding count
-    counted = right.counts
+module _ {d : ℕ} {le : Row d → Row d → Bool} (o : OrderLaws d le) {g : Graph} (sound : Sound g) {p : Row d} {q : ℕ} {es : List ℕ} {r : ℕ → Row d} (right : IsPeriod (row_group o) (net d g) p q es r) where
+  -- the count is the number of the loop's waits
+  pub counted : q ≡ length es
+  unfolding count
+  counted = right.counts
 
-    pub some : 0 < q
-    some = subst (λ k. 0 < k) (sym counted) right.loop.closed.some
+  pub some : 0 < q
+  some = subst (λ k. 0 < k) (sym counted) right.loop.closed.some
 
-    pub known : (i : ℕ) → i < length es → get_or es i 0 < length ws
-    known = walk_known (net d n ws) _ es _ right.loop.closed.walk
+  pub known : (i : ℕ) → i < length es → get_or es i 0 < length g.waits
+  known = walk_known (net d g) _ es _ right.loop.closed.walk
 
-    -- a loop of few waits has a total near zero
-    pub near : (b : ℕ) → length es * span ≤ b → Within d b p
-    near b h = subst (Within d b) (sym right.sums) (within_more d (length es * span) b _ h (within_total o (net d n ws) span (amount_near d n ws sound) _ es _ right.loop.closed.walk))
+  -- there are no more of them than events: a loop starts at none twice
+  pub brief : length es ≤ g.events
+  brief =
+      let not_more : g.events < length es → ⊥ = λ h.
+      let twice = pigeon g.events (λ i. (net d g).from (get_or es i 0)) (λ i k. sound.starts _ (known i (omega arith))) in
+      right.loop.apart twice.0 twice.1 twice.2 (omega (arith, twice.3)) twice.4 in
+      omega (arith, not_more)
 
--- the places of each row of a list of amounts
-rows_places : {X : Type 0} (d : ℕ) (row : X → Row d) (xs : List X) → rows_of d row xs ≡ map (places d) (map row xs)
-rows_places d row [] = refl
-rows_places d row (x ∷ xs) = ap (λ zs. places d (row x) ∷ zs) (rows_places d row xs)
+  -- a loop of at most n waits has a total near zero
+  pub near : (n b : ℕ) → length es ≤ n → n * span ≤ b → Within d b p
+  near n b k h = subst (Within d b) (sym right.sums) (within_more d (length es * span) b _ (omega (arith, k)) (within_total o (net d g) span (amount_near d g sound) _ es _ right.loop.closed.walk))
 
 -- the departures of n events, as the slice that holds them shows them
-pub shown_rows : {X : Type 0} (d : ℕ) (row : X → Row d) (xs : List X) (n : ℕ) → n ≤ length xs → rows_of d row (take n xs) ≡ map (λ v. places d (row_at d row xs v)) (range_with_len 0 n)
-shown_rows d row xs n h =
-    let rs = map row (take n xs) in
-    let l : length rs ≡ n = length-map (take n xs) row ∙ length-take-le n xs h in
-    rows_places d row (take n xs)
-    ∙ fill_by_all (λ v. places d (row_at d row xs v)) (map (places d) rs) n [] (length-map rs (places d) ∙ l)
+pub shown_rows : {X : Type 0} (m : Scale X) (xs : List X) (n : ℕ) → n ≤ length xs → rows_of m (take n xs) ≡ map (λ v. places m.places (row_at m xs v)) (range_with_len 0 n)
+shown_rows m xs n h =
+    let zero = zero_row m.places in
+    let rs = map m.row (take n xs) in
+    let l : length rs ≡ n = length-map (take n xs) m.row ∙ length-take-le n xs h in
+    sym (map-map (places m.places) m.row (take n xs))
+    ∙ fill_by_all (λ v. places m.places (row_at m xs v)) (map (places m.places) rs) n [] (length-map rs (places m.places) ∙ l)
     (λ k u.
-    let e : get_or rs k (zero_row d) ≡ row_at d row xs k = ap (λ zs. get_or zs k (zero_row d)) (sym (take-map row n xs)) ∙ get_or-take n (map row xs) k (zero_row d) u in
-    get_or-map (places d) rs k (zero_row d) [] (omega arith) ∙ ap (places d) e)
+    let e : get_or rs k zero ≡ row_at m xs k = ap (λ zs. get_or zs k zero) (sym (take-map m.row n xs)) ∙ get_or-take n (map m.row xs) k zero u in
+    get_or-map (places m.places) rs k zero [] (omega arith) ∙ ap (places m.places) e)

@@ -2,12 +2,17 @@
 use Rattle.std.specs.Prelude.{ℕ, List, [], ◌∷◌, ◌++◌, map, ℤ, codes, decimal}
 use Rattle.std.specs.Fmt.{signed_decimal}
 use Rattle.std.specs.List.{flat_map}
+use Rattle.amount.specs.Rows.{places}
+use Rattle.amount.specs.Scales.{Scale}
 use Rattle.refusal.specs.declared.Refusal.{Refusal}
-use Rattle.refusal.specs.declared.Layer.{Layer}
-use Rattle.refusal.specs.declared.Layer.TheVariants.{File, Plan, Engine, Report}
+use Rattle.refusal.specs.Texts.{refusal_text}
 use Rattle.network.specs.Networks.{PlainWait, wait_at}
 use Rattle.report.specs.declared.verdict.Verdict.{Verdict}
 use Rattle.report.specs.declared.verdict.Verdict.TheVariants.{Right, Short, Long}
+
+-- the places of the row that an amount stands for
+abbrev pub places_of : {X : Type 0} → Scale X → X → List ℤ
+places_of m x = places m.places (m.row x)
 
 -- a further place of a row
 abbrev pub next_place : ℤ → List ℕ
@@ -18,16 +23,9 @@ abbrev pub row_text : List ℤ → List ℕ
 row_text [] = []
 row_text (z ∷ zs) = signed_decimal z ++ flat_map next_place zs
 
--- the word for a layer
-abbrev pub layer_word : Layer → List ℕ
-layer_word File = codes "file"
-layer_word Plan = codes "plan"
-layer_word Engine = codes "engine"
-layer_word Report = codes "report"
-
--- a refusal: its number, its layer and its place
+-- a refusal, as it reads, on a line
 abbrev pub refusal_line : Refusal → List ℕ
-refusal_line r = codes "refused " ++ (decimal r.number ++ (codes " " ++ (layer_word r.layer ++ (codes " " ++ (decimal r.place ++ codes "\n")))))
+refusal_line r = refusal_text r ++ codes "\n"
 
 -- the period: its total and its count
 abbrev pub period_line : List ℤ → ℕ → List ℕ

@@ -1,13 +1,14 @@
 -- Which text a report is: of a network, of a file, and in the space lent to the entry.
-use Rattle.std.specs.Prelude.{◌≡◌, ℕ, zero, suc, ◌<◌, ◌≤◌, Bool, List, map, length, ℤ, pos, negsuc, Some, None, Option}
+use Rattle.std.specs.Prelude.{◌≡◌, ℕ, zero, suc, ◌<◌, ◌≤◌, Bool, List, map, length, ℤ, pos, negsuc, Some, None, Option, Ok, Err, Result}
 use Rattle.std.specs.List.{range_with_len}
+use Rattle.arrayvec.specs.ArrayString.{ArrayString}
 use Rattle.refusal.specs.declared.Refusal.{Refusal}
 use Rattle.refusal.specs.declared.Layer.TheVariants.{Report}
 use Rattle.amount.specs.Rows.{Row, places, row_of, OrderLaws}
 use Rattle.amount.specs.Lawful.{lex_laws, reverse_laws}
 use Rattle.amount.specs.Groups.{row_group}
 use Rattle.network.specs.declared.Period.{Period}
-use Rattle.network.specs.Networks.{PlainWait}
+use Rattle.network.specs.Networks.{Graph, graph}
 use Rattle.network.specs.Walks.{net, NoClosed}
 use Rattle.network.specs.Walks.{Period as IsPeriod}
 use Rattle.engine.specs.Faults.{told}
@@ -18,7 +19,7 @@ use Rattle.file.specs.Opening.{Opens, Refused}
 use Rattle.file.specs.Faults.{told as file_told}
 use Rattle.file.specs.declared.fault.FileFault.{FileFault}
 use Rattle.report.specs.declared.verdict.Verdict.{Verdict}
-use Rattle.report.specs.Verdicts.{Judged, Modest}
+use Rattle.report.specs.Verdicts.{Judged}
 use Rattle.report.specs.Writing.{Written}
 use Rattle.report.specs.Lines.{refusal_line, starts_of}
 use Rattle.report.specs.Reports.{content, ReportOf}
@@ -27,10 +28,10 @@ use Rattle.report.specs.Reports.{content, ReportOf}
 abbrev pub too_big : ℕ → Refusal
 too_big n = record { number = 14; layer = Report; place = n }
 
--- a claim, if there is one, stays exact when it is compared with a period
-abbrev pub ClaimModest : {X : Type 0} (d : ℕ) → (X → Row d) → Option (Period X) → Type 0
-ClaimModest d row None = Unit {0}
-ClaimModest d row (Some c) = Modest d row c
+-- what is printed of a report: its text, or the line of its refusal
+abbrev pub text_of : Result ArrayString Refusal → List ℕ
+text_of (Ok page) = page.bytes
+text_of (Err refusal) = refusal_line refusal
 
 module _ {d : ℕ} {le : Row d → Row d → Bool} (order : OrderLaws d le) where
   -- there is a verdict on the period p over q exactly where there is a claim, and it is right
@@ -40,29 +41,29 @@ module _ {d : ℕ} {le : Row d → Row d → Bool} (order : OrderLaws d le) wher
   VerdictOn p q (Some c) None = ⊥
   VerdictOn p q (Some c) (Some v) = Judged (row_group order) p q (row_of d c.total) c.count v
 
-  -- t is the report of a period, a loop and departures that are right for n events and these waits, in the measure of this
-  -- number, with the verdict on the claim
-  pub record Solution (number n : ℕ) (ws : List PlainWait) (claim : Option (Period (List ℤ))) (t : List ℕ) : Type 0 where
+  -- t is the report of a period, a loop and departures that are right for this network, in the measure of this number, with
+  -- the verdict on the claim
+  pub record Solution (number : ℕ) (g : Graph) (claim : Option (Period (List ℤ))) (t : List ℕ) : Type 0 where
     pub p : Row d
     pub q : ℕ
     pub loop : List ℕ
     pub departure : ℕ → Row d
     pub verdict : Option Verdict
-    pub right : IsPeriod (row_group order) (net d n ws) p q loop departure
+    pub right : IsPeriod (row_group order) (net d g) p q loop departure
     pub judged : VerdictOn p q claim verdict
-    pub report : ReportOf (content number (places d p) q (starts_of ws loop) (map (λ v. places d (departure v)) (range_with_len 0 n)) verdict) t
+    pub report : ReportOf (content number (places d p) q (starts_of g.waits loop) (map (λ v. places d (departure v)) (range_with_len 0 g.events)) verdict) t
 
-  -- the text of the report on n events, these waits and this claim: too big, without a loop, or solved
-  pub data NetworkText (number n : ℕ) (ws : List PlainWait) (claim : Option (Period (List ℤ))) (t : List ℕ) : Type 0 where
-    big : 60 < n → t ≡ refusal_line (too_big n) → NetworkText number n ws claim t
-    loopless : n ≤ 60 → NoClosed (net d n ws) → t ≡ refusal_line (told (NoLoop n)) → NetworkText number n ws claim t
-    solved : n ≤ 60 → Solution number n ws claim t → NetworkText number n ws claim t
+  -- the text of the report on a network and a claim: too big, without a loop, or solved
+  pub data NetworkText (number : ℕ) (g : Graph) (claim : Option (Period (List ℤ))) (t : List ℕ) : Type 0 where
+    big : 60 < g.events → t ≡ refusal_line (too_big g.events) → NetworkText number g claim t
+    loopless : g.events ≤ 60 → NoClosed (net d g) → t ≡ refusal_line (told (NoLoop g.events)) → NetworkText number g claim t
+    solved : g.events ≤ 60 → Solution number g claim t → NetworkText number g claim t
 
   -- the text of the report on the bytes of a file, opened for the measure of this number: the file's refusal, or the report on
   -- what its words spell
   pub data OpenedText (number : ℕ) (bytes t : List ℕ) : Type 0 where
     refused : (f : FileFault) → Refused number d bytes (file_told f).number (file_told f).place → t ≡ refusal_line (file_told f) → OpenedText number bytes t
-    opened : Opens number d bytes → NetworkText number (contents d (words_of bytes)).events (contents d (words_of bytes)).waits (contents d (words_of bytes)).claim t → OpenedText number bytes t
+    opened : Opens number d bytes → NetworkText number (graph (contents d (words_of bytes)).events (contents d (words_of bytes)).waits) (contents d (words_of bytes)).claim t → OpenedText number bytes t
 
 -- the text of the report on the bytes of a file in measure 1, 2 or 3; in any other as in measure 1
 abbrev pub MeasuredText : ℕ → List ℕ → List ℕ → Type 0

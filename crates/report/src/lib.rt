@@ -1,20 +1,18 @@
-// The printed report: the period of a filed network, its headway, loop and departures, as lines of text.
+//! The printed report: the period of a filed network, its headway, loop and departures, as lines of text.
 
 #![tactic(auto)]
 
-ghost use Rattle.std.specs.Prelude.{◌≡◌, ◌≤◌, length};
-ghost use Rattle.file.specs.Words.{words_of};
-ghost use Rattle.file.specs.Contents.{named_measure};
-ghost use Rattle.report.specs.Reported.{measure_of, MeasuredText, Reported};
-ghost use Rattle.report.specs.Writing.{Written};
+ghost use Rattle.std.specs.Prelude.{◌≡◌};
+ghost use Rattle.report.specs.Reported.{FileText, Reported, text_of};
 
-use crate::lines::refusal_line;
-use crate::measures::{in_reversed_seconds, in_seconds, in_seconds_and_metres};
-use crate::telling::too_big;
-use file::named_measure;
+use crate::fault::TooBig;
+use crate::lines::refusal_page;
+use crate::measures::in_named_measure;
+pub use crate::text::Page;
+use refusal::Refusal;
 
 mod division;
-mod filing;
+mod fault;
 mod lines;
 mod measures;
 mod page;
@@ -25,54 +23,38 @@ pub mod verdict;
 // The fewest bytes that a text space has.
 const PAGE: usize = 4096;
 
-// The answer where it has fewer.
+// The answer where it has fewer: a C program is answered by one number.
 const SMALL_PAGE: i64 = -17;
 
-// The most bytes that a file has.
-const MOST_BYTES: usize = 60_000;
+/// The most bytes that a file has; a longer one is refused as too big.
+pub const MOST_BYTES: usize = 60_000;
 
-// The measure of a file whose heading names none.
-const SECONDS: u32 = 1;
-
-// The other measures that a heading can name.
-const SECONDS_AND_METRES: u32 = 2;
-
-pub(crate) const REVERSED_SECONDS: u32 = 3;
-
-// The measure that a file is read in: the one that its heading names, if it has one.
-fn measure_of(file: &[u8]) -> u32
-    ensures { result ≡ measure_of (named_measure (words_of file.now)) }
+// The report on the bytes of a file, or why there is none.
+fn report_on(file: &[u8]) -> Result<Page, Refusal>
+    ensures { FileText file.now (text_of result) }
 {
-    match named_measure(file) {
-        Some(measure) => measure,
-        None => SECONDS,
+    if file.len() > MOST_BYTES {
+        return Err(TooBig(MOST_BYTES as u64).into());
     }
+    in_named_measure(file)
 }
 
-// The report on the bytes of a file, in the measure that its heading names.
-fn in_named_measure(file: &[u8], text: &mut [u8]) -> usize
-    requires { 4096 ≤ length text.old }
-    ensures { Written (MeasuredText (measure_of (named_measure (words_of file.now))) file.now) text.old text.new result }
+/// The text of the report on the bytes of a file; where there is none, the line of the refusal.
+pub fn page_of(file: &[u8]) -> Page
+    ensures { FileText file.now result.bytes }
 {
-    let measure = measure_of(file);
-    if measure == SECONDS_AND_METRES {
-        in_seconds_and_metres(file, text)
-    } else if measure == REVERSED_SECONDS {
-        in_reversed_seconds(file, text)
-    } else {
-        in_seconds(file, text)
-    }
+    report_on(file).unwrap_or_else(refusal_page)
 }
 
-// Writes the report on the bytes of a file into the text space, and answers how many bytes it wrote; -17 if the space is small.
+/// Writes the report on the bytes of a file into the text space, and answers how many bytes it wrote; -17 if the space is
+/// small.
 pub fn report(file: &[u8], text: &mut [u8]) -> i64
     ensures { Reported file.now text.old text.new result }
 {
     if text.len() < PAGE {
         return SMALL_PAGE;
     }
-    if file.len() > MOST_BYTES {
-        return refusal_line(text, 0, too_big(MOST_BYTES as u64)) as i64;
-    }
-    in_named_measure(file, text) as i64
+    let page = page_of(file);
+    text[..page.len()].copy_from_slice(page.as_bytes());
+    page.len() as i64
 }

@@ -1,92 +1,88 @@
-// The whole text of a report.
-ghost use Rattle.std.specs.Prelude.{◌≡◌, ℕ, ◌+◌, ◌*◌, ◌<◌, ◌≤◌, length, slice_index};
-ghost use Rattle.amount.specs.Rows.{Within, places as listed};
-ghost use Rattle.report.specs.Writing.{Wrote, Written};
-ghost use Rattle.report.specs.Lines.{starts_of};
-ghost use Rattle.report.specs.Reports.{first_of, rows_of, leaves_lines, claim_text, content, HeadwayWritten, ReportOf};
+//! The whole text of a report.
+ghost use Rattle.std.specs.Prelude.{◌≡◌, ℕ, ◌<◌, ◌≤◌, length, slice_index};
+ghost use Rattle.amount.specs.Scales.{IsExact};
+ghost use Rattle.report.specs.Headways.{Headway};
+ghost use Rattle.report.specs.Lines.{places_of};
+ghost use Rattle.report.specs.Reports.{first_of, rows_of, leaves_lines, headway_text, claim_text, content_of, ReportOf};
 
-use crate::REVERSED_SECONDS;
 use crate::division::headway;
-use crate::lines::{MAX_PLACES, claim_line, headway_line, leaves_line, loop_line, period_line};
+use crate::lines::{claim_line, departure_line, headway_line, loop_line, period_line};
+use crate::measures::Printed;
+use crate::text::{Page, places_of};
 use crate::verdict::Verdict;
 use amount::filed::Filed;
 use amount::measure::Measure;
+use arrayvec::ArrayString;
 use network::{Network, Period};
 
-// The first place of an amount's row.
-fn first_place<X: Filed>(x: X) -> i64
-    ensures { result ≡ first_of (listed X.Measure.places (X.Measure.row x)) }
+/// The first place of an amount's row.
+fn first_place<X: Printed>(x: X) -> i64
+    ensures { result ≡ first_of (places_of X.scale x) }
 {
-    let mut places = [0i64; MAX_PLACES];
-    let d = X::place_count();
-    x.to_places(&mut places[..d]);
-    places[0]
+    places_of(x).first().copied().unwrap_or(0)
 }
 
-// The headway of a period, in the measures that show one.
-fn headway_text<X: Filed>(text: &mut [u8], at: usize, period: Period<X>) -> usize
+/// The headway of a period.
+// Its count is above 0 by a clause, here and in `report_page`, as in `division`.
+fn headway_of<X: Printed>(period: Period<X>) -> i64
     requires some { 0 < period.count }
-    requires near { Within X.Measure.places 1000000000000 (X.Measure.row period.total) }
-    requires room { at + 29 ≤ length text.old }
-    ensures wrote { HeadwayWritten X.Filed.number (listed X.Measure.places (X.Measure.row period.total)) period.count text.old text.new at result }
-    ensures short { result ≤ at + 29 }
+    requires near { IsExact X.scale (X.scale.row period.total) }
+    ensures { Headway (first_of (places_of X.scale period.total)) period.count result }
 {
-    let h = headway(first_place(period.total), period.count);
-    if X::file_number() == REVERSED_SECONDS {
-        return at;
-    }
-    headway_line(text, at, h)
+    headway(first_place(period.total), period.count)
 }
 
-// A line for every departure, in a measure of at most two places.
-fn leaves_lines<X: Filed>(text: &mut [u8], at: usize, leaves: &[X]) -> usize
-    requires narrow { X.Measure.places ≤ 2 }
-    requires few { length leaves.now ≤ 60 }
-    requires room { at + 53 * length leaves.now ≤ length text.old }
-    ensures wrote { Wrote text.old text.new at result (leaves_lines 0 (rows_of X.Measure.places X.Measure.row leaves.now)) }
-    ensures short { result ≤ at + 53 * length leaves.now }
+/// The headway's line, in the measures that show one.
+fn headway_text<X: Printed>(headway: i64) -> ArrayString<29>
+    ensures { result.bytes ≡ headway_text X.NUMBER headway }
 {
-    let mut end = at;
-    for event in 0..leaves.len() {
-        end = leaves_line(text, end, event as u32, leaves[event]);
-    }
-    end
-}
-
-fn claim_text(text: &mut [u8], at: usize, verdict: Option<Verdict>) -> usize
-    requires { at + 12 ≤ length text.old }
-    ensures wrote { Wrote text.old text.new at result (claim_text verdict) }
-    ensures short { result ≤ at + 12 }
-{
-    match verdict {
-        Some(verdict) => claim_line(text, at, verdict),
-        None => at,
+    if X::SHOWS_HEADWAY {
+        headway_line(headway)
+    } else {
+        ArrayString::new()
     }
 }
 
-// The report on a network of at most 60 events, in a measure of at most two places: its period, the wait numbers
-// of its loop, its departures, and the verdict on a claim. Answers how many bytes it wrote.
-pub(crate) fn write_report<X: Filed, N: Network<X>>(
-    text: &mut [u8],
+/// A line for each of at most 60 departures, of at most 53 bytes.
+fn departure_lines<X: Printed>(departures: &[X]) -> ArrayString<3180>
+    requires { length departures.now ≤ 60 }
+    ensures { result.bytes ≡ leaves_lines 0 (rows_of X.scale departures.now) }
+{
+    let mut text = ArrayString::new();
+    for (event, departure) in departures.iter().enumerate() {
+        text.push_str(&departure_line(event as u8, *departure));
+    }
+    text
+}
+
+/// The claim's line, if there is a verdict on one.
+fn claim_text(verdict: Option<Verdict>) -> ArrayString<12>
+    ensures { result.bytes ≡ claim_text verdict }
+{
+    verdict.map(claim_line).unwrap_or_default()
+}
+
+/// The report on a network of at most 60 events: its period, the wait numbers of its loop, its departures, and the verdict on
+/// a claim.
+pub(crate) fn report_page<X: Printed, N: Network<X>>(
     net: &N,
     period: Period<X>,
-    circle: &[u32],
-    leaves: &[X],
+    waits: &[u32],
+    departures: &[X],
     verdict: Option<Verdict>,
-) -> usize
-    requires page { 4096 ≤ length text.old }
-    requires narrow { X.Measure.places ≤ 2 }
-    requires low { N.Network.events net.now ≤ 60 }
+) -> Page
     requires some { 0 < period.count }
-    requires near { Within X.Measure.places 1000000000000 (X.Measure.row period.total) }
-    requires brief { length circle.now ≤ 60 }
-    requires known { (i : ℕ) → i < length circle.now → slice_index circle.now i < length (N.Network.waits net.now) }
-    requires few { length leaves.now ≤ 60 }
-    ensures { Written (ReportOf (content X.Filed.number (listed X.Measure.places (X.Measure.row period.total)) period.count (starts_of (N.Network.waits net.now) circle.now) (rows_of X.Measure.places X.Measure.row leaves.now) verdict)) text.old text.new result }
+    requires near { IsExact X.scale (X.scale.row period.total) }
+    requires brief { length waits.now ≤ 60 }
+    requires known { (i : ℕ) → i < length waits.now → slice_index waits.now i < length (N.graph net.now).waits }
+    requires few { length departures.now ≤ 60 }
+    ensures { ReportOf (content_of X.scale X.NUMBER (N.graph net.now) period waits.now departures.now verdict) result.bytes }
 {
-    let at = period_line(text, 0, period);
-    let at = headway_text(text, at, period);
-    let at = loop_line(text, at, net, circle);
-    let at = leaves_lines(text, at, leaves);
-    claim_text(text, at, verdict)
+    let mut page = Page::new();
+    page.push_str(&period_line(period));
+    page.push_str(&headway_text::<X>(headway_of(period)));
+    page.push_str(&loop_line(net, waits));
+    page.push_str(&departure_lines(departures));
+    page.push_str(&claim_text(verdict));
+    page
 }

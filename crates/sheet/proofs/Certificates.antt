@@ -3,7 +3,7 @@ use Rattle.std.proofs.Common.{◌≡◌, ℕ, ◌<◌, ◌≤◌, Bool, true, no
 use lib.Signed.{le_z, le_z_yes}
 use Rattle.amount.specs.Spans.{span}
 use Rattle.amount.specs.Groups.{Ordered, times}
-use Rattle.network.specs.Networks.{PlainWait, wait_at, AllWithin, Sound}
+use Rattle.network.specs.Networks.{Graph, wait_at, AllWithin, Sound}
 use Rattle.network.specs.Walks.{Net, Walk, Loop, sum, total, count, weight, Keeps, NonNegative, MeanLe, Period, NoClosed}
 use Rattle.network.proofs.Joined.{Joined, count_waits}
 use Rattle.network.proofs.Toolkit
@@ -86,23 +86,23 @@ all_near b (x ∷ xs) t =
     let rest = right (le_z (neg_ℤ (pos b)) x) _ t in
     (le_z_yes (left _ _ t), le_z_yes (left _ _ rest), all_near b xs (right (le_z x (pos b)) _ rest))
 
-module _ (n : ℕ) (ws : List PlainWait) where
+module _ (g : Graph) where
   abbrev fits : ℕ → Bool
-  fits e = both (ltb (wait_at ws e).start n) (both (ltb (wait_at ws e).end n) (nearby span (wait_at ws e).amount))
+  fits e = both (ltb (wait_at g.waits e).start g.events) (both (ltb (wait_at g.waits e).end g.events) (nearby span (wait_at g.waits e).amount))
 
-  -- each wait joins two of n events and lies in the span
+  -- each wait joins two of the events and lies in the span
   abbrev pub Fits : Bool
-  Fits = each fits (length ws)
+  Fits = each fits (length g.waits)
 
-  pub sound : T Fits → Sound n ws
+  pub sound : T Fits → Sound g
   sound t = record {
-    starts = λ e h. ltb→lt _ _ (left _ _ (at fits (length ws) t e h));
+    starts = λ e h. ltb→lt _ _ (left _ _ (at fits (length g.waits) t e h));
     ends = λ e h. ltb→lt _ _ (left _ _ (rest e h));
-    spans = λ e h. all_near span _ (right (ltb (wait_at ws e).end n) _ (rest e h));
+    spans = λ e h. all_near span _ (right (ltb (wait_at g.waits e).end g.events) _ (rest e h));
   }
     where
-      rest : (e : ℕ) → e < length ws → T (both (ltb (wait_at ws e).end n) (nearby span (wait_at ws e).amount))
-      rest e h = right (ltb (wait_at ws e).start n) _ (at fits (length ws) t e h)
+      rest : (e : ℕ) → e < length g.waits → T (both (ltb (wait_at g.waits e).end g.events) (nearby span (wait_at g.waits e).amount))
+      rest e h = right (ltb (wait_at g.waits e).start g.events) _ (at fits (length g.waits) t e h)
 
 -- the tests of a certificate, computed
 module _ {A : Type 0} (G : Ordered A) (N : Net A) where

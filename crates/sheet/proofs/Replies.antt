@@ -1,17 +1,17 @@
 -- What edits of a draft are answered: computed from its event count, its room and its waits.
 use Rattle.std.proofs.Common.{◌≡◌, ℕ, ◌<◌, ◌≤◌, min, Bool, true, false, cond, T, ltb, List, [], ◌∷◌, length, ℤ, Some, None, Ok, Err, Option, Result, sym, refl, ap, ◌∙◌, subst, ⊎_elim, arith, ltb→lt, lt→ltb}
 use Rattle.std.specs.List.{remove}
-use Rattle.amount.specs.Rows.{Row, OrderLaws, first_beyond}
+use Rattle.amount.specs.Rows.{first_beyond}
+use Rattle.amount.specs.Scales.{Scale}
 use Rattle.amount.specs.Spans.{span}
 use Rattle.network.specs.Networks.{PlainWait}
 use Rattle.engine.specs.Solved.{Memory}
 use Rattle.plan.specs.declared.fault.PlanFault.{PlanFault}
 use Rattle.plan.specs.declared.fault.PlanFault.TheVariants.{UnknownEvent, OutOfSpan, Full, NoSuchWait, BadCount, NotTakenIn}
-use Rattle.plan.specs.declared.calls.Answer.{Answer}
-use Rattle.plan.specs.declared.calls.Answer.TheVariants.{Barred}
+use Rattle.plan.specs.declared.calls.Declined.TheVariants.{Barred}
 use Rattle.plan.specs.Plans.{Plan}
 use Rattle.plan.specs.Rules.{Changed, added, retimed, Puts, Retimes, Drops}
-use Rattle.plan.specs.Calls.{PlainCall, put, retime, drop_wait, take_in, fix, reopen, solve, allowed, accepts, by_number, by_done}
+use Rattle.plan.specs.Calls.{PlainCall, put, retime, drop_wait, take_in, fix, reopen, solve, Answer, allowed, accepts, by_number, by_done}
 use Rattle.plan.specs.Histories.{Ruled, Judged, History, ended, then}
 use Rattle.plan.specs.Left.{edited}
 use Rattle.sheet.proofs.Tests.{both, left, right}
@@ -38,10 +38,10 @@ abbrev pub reply : {X : Type 0} → ℕ → ℕ → List PlainWait → PlainCall
 reply n k ws (put w) = by_number (put_reply n k ws w)
 reply n k ws (retime i a) = by_done (retime_reply ws i a)
 reply n k ws (drop_wait i) = by_done (drop_reply ws i)
-reply n k ws (take_in m bytes) = Barred
-reply n k ws fix = Barred
-reply n k ws reopen = Barred
-reply n k ws solve = Barred
+reply n k ws (take_in m bytes) = Err Barred
+reply n k ws fix = Err Barred
+reply n k ws reopen = Err Barred
+reply n k ws solve = Err Barred
 
 -- the answers to edits of a draft of n events, room for k records, and these waits
 abbrev pub replies : {X : Type 0} → ℕ → ℕ → ℕ → List PlainWait → List PlainCall → List (Answer X)
@@ -139,10 +139,10 @@ module _ {S : Type 0} (p q : Plan S) where
     drop_held X i (Ok u) h = changed (λ vs. remove vs i) h.1
     drop_held X i (Err e) h = unchanged h.0
 
-module _ {X S : Type 0} (d : ℕ) (row : X → Row d) {le : Row d → Row d → Bool} (order : OrderLaws d le) (n k : ℕ) where
+module _ {X S : Type 0} (m : Scale X) (n k : ℕ) where
   -- one edit: its answer, and the draft after it
-  step : (p q : Plan S) (t u : Memory X) (ws : List PlainWait) (c : PlainCall) (a : Answer X) → T (edits c) → Held n k ws p → Ruled d row order p t c a q u
-      → (a ≡ reply n k ws c) × Held n k (cond (accepts a) (edited d ws c) ws) q
+  step : (p q : Plan S) (t u : Memory X) (ws : List PlainWait) (c : PlainCall) (a : Answer X) → T (edits c) → Held n k ws p → Ruled m p t c a q u
+      → (a ≡ reply n k ws c) × Held n k (cond (accepts a) (edited m.places ws c) ws) q
   step p q t u ws (put w) a e held h =
       let is = put_reply_lem p q w h.0 h.1.1 in
       (h.1.0 ∙ ap by_number (rw (held.events, held.size, held.waits) at is), subst (λ (b : Answer X). Held n k (cond (accepts b) (added ws w) ws) q) (sym h.1.0) (put_held p q n k ws held X w h.0 h.1.1))
@@ -152,17 +152,17 @@ module _ {X S : Type 0} (d : ℕ) (row : X → Row d) {le : Row d → Row d → 
   step p q t u ws (drop_wait i) a e held h =
       let is = drop_reply_lem p q i h.0 h.1.1 in
       (h.1.0 ∙ ap by_done (rw held.waits at is), subst (λ (b : Answer X). Held n k (cond (accepts b) (remove ws i) ws) q) (sym h.1.0) (drop_held p q n k ws held X i h.0 h.1.1))
-  step p q t u ws (take_in m bytes) a e held h = absurd e
+  step p q t u ws (take_in number bytes) a e held h = absurd e
   step p q t u ws fix a e held h = absurd e
   step p q t u ws reopen a e held h = absurd e
   step p q t u ws solve a e held h = absurd e
 
   -- a history of edits has the computed answers
   pub answered : (p : Plan S) (calls : List PlainCall) (answers : List (Answer X)) (q : Plan S) (ws : List PlainWait) → T (all_edits calls) → Held n k ws p
-      → History d row order p calls answers q → answers ≡ replies d n k ws calls
+      → History m p calls answers q → answers ≡ replies m.places n k ws calls
   answered _ _ _ _ ws e held (ended p) = refl
   answered _ _ _ _ ws e held (then p p' q t u c a calls answers f h) =
       let open-to : allowed p.fixed c ≡ true = ap (λ b. allowed b c) held.draft ∙ draft_allows c (left _ _ e) in
-      let s = step p p' t u ws c a (left _ _ e) held (subst (λ b. Judged d row order b p t c a p' u) open-to f) in
-      let rest = answered p' calls answers q (cond (accepts a) (edited d ws c) ws) (right (edits c) _ e) s.1 h in
-      ap (λ (l : List (Answer X)). a ∷ l) rest ∙ ap (λ (b : Answer X). b ∷ replies d n k (cond (accepts b) (edited d ws c) ws) calls) s.0
+      let s = step p p' t u ws c a (left _ _ e) held (subst (λ b. Judged m b p t c a p' u) open-to f) in
+      let rest = answered p' calls answers q (cond (accepts a) (edited m.places ws c) ws) (right (edits c) _ e) s.1 h in
+      ap (λ (l : List (Answer X)). a ∷ l) rest ∙ ap (λ (b : Answer X). b ∷ replies m.places n k (cond (accepts b) (edited m.places ws c) ws) calls) s.0

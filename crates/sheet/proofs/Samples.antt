@@ -3,7 +3,7 @@ use Rattle.std.proofs.Common.{◌≡◌, ℕ, T, List, [], ◌∷◌, ℤ, pos, 
 use lib.Signed.{le_z, lt_z, le_z_yes, lt_z_yes}
 use Rattle.refusal.specs.declared.Refusal.{Refusal}
 use Rattle.refusal.specs.declared.Layer.TheVariants.{Plan}
-use Rattle.amount.specs.Lawful.{lex_laws}
+use Rattle.amount.specs.Given.{seconds_scale}
 use Rattle.amount.specs.Groups.{times}
 use Rattle.network.specs.Walks.{count, NoClosed}
 use Rattle.network.specs.Walks.{Period as IsPeriod}
@@ -14,7 +14,7 @@ use Rattle.report.specs.declared.verdict.Verdict.{Verdict}
 use Rattle.report.specs.Verdicts.{Judged}
 use Rattle.plan.specs.Faults.{told as plan_told}
 use Rattle.plan.specs.Plans.{opened, events_of}
-use Rattle.sheet.specs.Sheet.{Drawn, one, size, row_by, Solving, ShownAs, RefusedAs, JudgedAs, group_of, graph_of, row_in, rows_in, Sample, Holds, solved, loopless, claimed, headway, called, refused, sec, samples, All, Sheet}
+use Rattle.sheet.specs.Sheet.{Drawn, scale_in, Solving, ShownAs, RefusedAs, JudgedAs, group_of, graph_of, row_in, rows_in, Sample, Holds, solved, loopless, claimed, headway, called, refused, sec, samples, All, Sheet}
 use Rattle.sheet.proofs.Certificates.{Fits, sound, Proves, proven, same_mean, same_departures, none_closed}
 use Rattle.sheet.proofs.Verdicts.{same_verdict, one_headway}
 use Rattle.sheet.proofs.Replies.{replies, all_edits, answered}
@@ -37,14 +37,14 @@ data Evidence : Type 0 where
 
 -- the network is sound, and the period is shown
 abbrev Solves : Drawn → Shown → Type 0
-Solves k s = T (Fits k.events k.waits) × T (Proves (group_of k) (graph_of k) (row_in k s.total) s.count s.loop (rows_in k s.departures) s.walks)
+Solves k s = T (Fits k.network) × T (Proves (group_of k) (graph_of k) (row_in k s.total) s.count s.loop (rows_in k s.departures) s.walks)
 
 -- the test of each sample
 abbrev Passes : Sample → Evidence → Type 0
 Passes (solved k t c es ds) (walks ws) = Solves k (record { total = t; count = c; loop = es; departures = ds; walks = ws })
 Passes (solved k t c es ds) (against s) = ⊥
 Passes (solved k t c es ds) none = ⊥
-Passes (loopless k f) e = T (Fits k.events k.waits) × ((graph_of k).waits ≡ 0) × (engine_told (NoLoop k.events) ≡ f)
+Passes (loopless k f) e = T (Fits k.network) × ((graph_of k).waits ≡ 0) × (engine_told (NoLoop k.network.events) ≡ f)
 Passes (claimed k t c v) (walks ws) = ⊥
 Passes (claimed k t c v) (against s) = Solves k s × Judged (group_of k) (row_in k s.total) s.count (row_in k t) c v
 Passes (claimed k t c v) none = ⊥
@@ -55,7 +55,7 @@ Passes (refused f n k) e = plan_told f ≡ record { number = n; layer = Plan; pl
 module _ (k : Drawn) (s : Shown) (t : Solves k s) where
   known : IsPeriod (group_of k) (graph_of k) (row_in k s.total) s.count s.loop (rows_in k s.departures)
   known =
-      proven (group_of k) (graph_of k) (joined (size k.scale) k.events k.waits (sound k.events k.waits t.0))
+      proven (group_of k) (graph_of k) (joined (scale_in k).places k.network (sound k.network t.0))
       (row_in k s.total) s.count s.loop (rows_in k s.departures) s.walks t.1
 
   -- where a period is known, solving shows that one, and claims have the verdicts that it gives them
@@ -72,23 +72,23 @@ module _ (k : Drawn) (s : Shown) (t : Solves k s) where
   verdict_answered c b v judged (Err (NoLoop j)) old new enough h = h.none _ _ known.loop.closed
 
 -- where nothing is closed, solving refuses
-refusal_answered : (k : Drawn) (f : Refusal) → NoClosed (graph_of k) → engine_told (NoLoop k.events) ≡ f → Solving k (RefusedAs k f)
+refusal_answered : (k : Drawn) (f : Refusal) → NoClosed (graph_of k) → engine_told (NoLoop k.network.events) ≡ f → Solving k (RefusedAs k f)
 refusal_answered k f unclosed is (Ok p) old new enough h = unclosed _ _ h.shown.period.loop.closed
 refusal_answered k f unclosed is (Err (ShortTable j)) old new enough h = absurd (h.short enough)
 refusal_answered k f unclosed is (Err (NoLoop j)) old new enough h = ap (λ i. engine_told (NoLoop i)) h.place ∙ is
 
 -- a sample that passes is right
 holds : (s : Sample) (e : Evidence) → Passes s e → Holds s
-holds (solved k t c es ds) (walks ws) h = let s : Shown = record { total = t; count = c; loop = es; departures = ds; walks = ws } in (sound k.events k.waits h.0, known k s h, period_answered k s h)
+holds (solved k t c es ds) (walks ws) h = let s : Shown = record { total = t; count = c; loop = es; departures = ds; walks = ws } in (sound k.network h.0, known k s h, period_answered k s h)
 holds (solved k t c es ds) (against s) h = absurd h
 holds (solved k t c es ds) none h = absurd h
-holds (loopless k f) e h = let unclosed = none_closed (group_of k) (graph_of k) h.1 in (sound k.events k.waits h.0, unclosed, refusal_answered k f unclosed h.2)
+holds (loopless k f) e h = let unclosed = none_closed (group_of k) (graph_of k) h.1 in (sound k.network h.0, unclosed, refusal_answered k f unclosed h.2)
 holds (claimed k t c v) (walks ws) h = absurd h
 holds (claimed k t c v) (against s) h = verdict_answered k s h.0 t c v h.1
 holds (claimed k t c v) none h = absurd h
 holds (headway t c h) e p = one_headway t h c (lt_z_yes p.0) (le_z_yes p.1)
 holds (called n k calls expected) e h = λ m answers q room told.
-    answered 1 (row_by one) (lex_laws 1) (events_of n) k (opened n m) calls answers q [] h.0 (record { draft = refl; events = refl; waits = refl; size = room }) told ∙ h.1
+    answered seconds_scale (events_of n) k (opened n m) calls answers q [] h.0 (record { draft = refl; events = refl; waits = refl; size = room }) told ∙ h.1
 holds (refused f n k) e h = h
 
 -- evidence for each sample of a list, with the test that it passes

@@ -1,63 +1,55 @@
-use Rattle.std.proofs.Common.{◌≡◌, ℕ, suc, ◌+◌, ◌*◌, ◌<◌, ◌≤◌, get_or, sym, refl, ap, ◌∙◌, subst, mul-le-mul_right, suc-mul, zero-mul, add-one, arith}
-use Rattle.amount.specs.Groups.{row_group}
-use Rattle.network.specs.Walks.{net}
-use Rattle.engine.specs.Solved.{table_size, row_at}
-use Rattle.engine.specs.Tables.{Entry}
-use Rattle.engine.proofs.Cells.{outside_past}
+use Rattle.std.proofs.Common.{◌≡◌, ℕ, ◌+◌, ◌-◌, ◌*◌, ◌<◌, ◌≤◌, List, ◌++◌, length, take, drop, sym, ◌∙◌, ap, subst, mul-le-mul_right, suc-mul, length-take, add-one, arith}
+use Rattle.std.proofs.lemmas.Slice.{drop-append-drop}
+use Rattle.engine.specs.Solved.{table_size}
+use Rattle.engine.specs.Filled.{RowDone}
+use Rattle.engine.proofs.Cells.{split_past}
+use Rattle.engine.proofs.Filling.{rows_read, rows_more}
 use Rattle.engine.proofs.tables.fill_tables.Goals as goal
 
--- row k + 1 lies in a table of n + 1 rows, and the first row too
-row_fits : (n k : ℕ) → k < n → k * n + n + n ≤ table_size n
-row_fits n k h = let p = mul-le-mul_right n h in let a = suc-mul k n in let b = suc-mul n n in let e : (n + 1) * n ≡ suc n * n = rw add-one in omega arith
+-- row k + 1 lies in a table of n + 1 rows
+row_fits : (n k : ℕ) → k < n → (k + 1) * n + n ≤ table_size n
+row_fits n k h = let p = mul-le-mul_right n h in let b = suc-mul n n in rw (add-one, add-one) (omega (arith, suc-mul k n))
 
-first_fits : (n : ℕ) → 0 + n ≤ table_size n
-first_fits n = let b = suc-mul n n in let e : (n + 1) * n ≡ suc n * n = rw add-one in omega arith
-
-pub clear_row-requires : goal.clear_row-requires
-clear_row-requires g c =
+pub next_row-requires-clause-done : goal.next_row-requires-clause-done
+next_row-requires-clause-done g c =
+    let graph = g.N.Network.graph c.args.net.now in
     let e = c.event_count-n.ensures in
-    let fits = first_fits (g.N.Network.events c.args.net.now) in
-    (omega (arith, c.requires.0), omega (arith, c.requires.1))
-
-pub fill_row-requires : goal.fill_row-requires
-fill_row-requires g c =
-    let e = c.event_count-n.ensures in
+    let sx = c.split_at_mut-rows in
+    let sy = c.split_at_mut-marks in
     let k = c.loop-k.k in
-    let fits = subst (λ i. k * i + i + i ≤ table_size (g.N.Network.events c.args.net.now)) (sym e) (row_fits (g.N.Network.events c.args.net.now) k (omega (arith, e, c.loop-k-test.true))) in
-    record {
-      count = (sym e, c.loop-k-test.true);
-      room = (omega (arith, fits, c.requires.0, c.loop-k.auto.rows, c.clear_row.auto.rows), omega (arith, fits, c.requires.1, c.loop-k.auto.marks, c.clear_row.auto.marks));
-      done = c.loop-k.invariant.0;
-    }
-
--- the first row, cleared, is right
-pub loop-k-init : goal.loop-k-init
-loop-k-init g c =
-    let m = g.X.Measure in
-    let ev = g.N.Network.events c.args.net.now in
-    let e = c.event_count-n.ensures in
-    let first : (v : ℕ) → v < ev → Entry (row_group m.order) (net m.places ev (g.N.Network.waits c.args.net.now)) 0 v (row_at m.places m.row c.clear_row.new.rows (0 * ev + v)) (get_or c.clear_row.new.marks (0 * ev + v) 0) =
-    λ v h. let z : 0 * ev + v ≡ 0 + v = ap (λ i. i + v) (zero-mul ev) in
-    let r = c.clear_row.ensures.clear v (omega (arith, e, h)) in
-    (ap (row_at m.places m.row c.clear_row.new.rows) z ∙ r.0, ap (λ i. get_or c.clear_row.new.marks i 0) z ∙ r.1) in
-    ((λ k v h l. subst (λ i. Entry (row_group m.order) (net m.places ev (g.N.Network.waits c.args.net.now)) i v (row_at m.places m.row c.clear_row.new.rows (i * ev + v)) (get_or c.clear_row.new.marks (i * ev + v) 0)) (let z : 0 ≡ k = omega arith in z) (first v l)), refl, refl)
+    subst (λ n. RowDone g.X.Scaled.scale graph k (take (length sx.result.0.now - k * n) (drop (k * n) sx.result.0.now)) (take (length sy.result.0.now - k * n) (drop (k * n) sy.result.0.now))) (sym e)
+    (rows_read g.X.Scaled.scale graph k _ _ _ sx.ensures.value _ _ _ sy.ensures.value (sx.ensures.front_len ∙ ap (λ n. (k + 1) * n) e) (sy.ensures.front_len ∙ ap (λ n. (k + 1) * n) e) c.loop-k.invariant.0)
 
 pub loop-k-preserved : goal.loop-k-preserved
 loop-k-preserved g c =
+    let m = g.X.Scaled.scale in
+    let graph = g.N.Network.graph c.args.net.now in
     let e = c.event_count-n.ensures in
+    let n = c.event_count-n.result in
     let k = c.loop-k.k in
-    let ev = g.N.Network.events c.args.net.now in
-    let fits = subst (λ i. k * i + i + i ≤ table_size ev) (sym e) (row_fits ev k (omega (arith, e, c.loop-k-test.true))) in
-    (c.fill_row.ensures.done, outside_past (table_size ev) fits c.fill_row.ensures.rows ∙ c.loop-k.invariant.1, outside_past (table_size ev) fits c.fill_row.ensures.marks ∙ c.loop-k.invariant.2)
+    let sx = c.split_at_mut-rows in
+    let sy = c.split_at_mut-marks in
+    let p = c.next_row.new.next_rows in
+    let q = c.next_row.new.next_marks in
+    let size : length sx.result.0.now ≡ (k + 1) * graph.events = sx.ensures.front_len ∙ ap (λ i. (k + 1) * i) e in
+    let size' : length sy.result.0.now ≡ (k + 1) * graph.events = sy.ensures.front_len ∙ ap (λ i. (k + 1) * i) e in
+    let fits = row_fits graph.events k (omega (arith, e, c.loop-k-test.true)) in
+    let long : length p ≡ n = omega (arith, c.next_row.auto.next_rows, length-take n sx.result.1.now, sx.ensures.back_len, c.loop-k.auto.rows, c.clear_row.auto.rows, c.requires.0, fits, size, e) in
+    let long' : length q ≡ n = omega (arith, c.next_row.auto.next_marks, length-take n sy.result.1.now, sy.ensures.back_len, c.loop-k.auto.marks, c.clear_row.auto.marks, c.requires.1, fits, size', e) in (
+      rows_more m graph k _ _ _ sx.ensures.value _ _ _ sy.ensures.value size size' p q n c.loop-k.invariant.0 c.next_row.ensures (long ∙ e) (long' ∙ e),
+      split_past _ _ _ sx.ensures.value p n (table_size graph.events) long (omega (arith, size, fits, e)) ∙ c.loop-k.invariant.1,
+      split_past _ _ _ sy.ensures.value q n (table_size graph.events) long' (omega (arith, size', fits, e)) ∙ c.loop-k.invariant.2,
+    )
 
-pub returns : goal.returns
-returns g c =
-    let e = c.event_count-n.ensures in
-    let ev = g.N.Network.events c.args.net.now in
-    let all : c.loop-k.k ≡ ev = omega (arith, e) in
-    let fits : 0 + c.event_count-n.result ≤ table_size ev = omega (arith, e, first_fits ev) in
-    record {
-      entries = λ k v h l. c.loop-k.invariant.0 k v (omega (arith, all)) l;
-      past_rows = c.loop-k.invariant.1 ∙ outside_past (table_size ev) fits c.clear_row.ensures.rows;
-      past_marks = c.loop-k.invariant.2 ∙ outside_past (table_size ev) fits c.clear_row.ensures.marks;
-    }
+-- the first row fits too, and what lies past it stays
+first_past : {X : Type 0} (xs ys : List X) (n r : ℕ) → r ≡ n → table_size n ≤ length xs → length ys ≡ length (take r xs) → drop (table_size n) (ys ++ drop r xs) ≡ drop (table_size n) xs
+first_past xs ys n r e room same = drop-append-drop r xs ys (table_size n) fits (omega (arith, same, length-take r xs, fits, room))
+  where
+    fits : r ≤ table_size n
+    fits = rw add-one (omega (arith, e, suc-mul n n))
+
+pub returns-clause-past_rows : goal.returns-clause-past_rows
+returns-clause-past_rows g c = c.loop-k.invariant.1 ∙ first_past _ _ _ _ c.event_count-n.ensures c.requires.0 c.clear_row.auto.rows
+
+pub returns-clause-past_marks : goal.returns-clause-past_marks
+returns-clause-past_marks g c = c.loop-k.invariant.2 ∙ first_past _ _ _ _ c.event_count-n.ensures c.requires.1 c.clear_row.auto.marks

@@ -4,6 +4,6 @@ use Rattle.engine.proofs.tables.fill_tables.Given as goal
 
 abbrev pub invariant-loop-k : goal.invariant-loop-k
 invariant-loop-k g l =
-    EntriesTo g.X.Measure.places g.X.Measure.row g.X.Measure.order (g.N.Network.events l.net) (g.N.Network.waits l.net) l.k l.rows l.marks
-    × (drop (table_size (g.N.Network.events l.net)) l.rows ≡ drop (table_size (g.N.Network.events l.net)) l.initial.rows)
-    × (drop (table_size (g.N.Network.events l.net)) l.marks ≡ drop (table_size (g.N.Network.events l.net)) l.initial.marks)
+    let graph = g.N.Network.graph l.net in
+    let size = table_size graph.events in
+    EntriesTo g.X.Scaled.scale graph l.k l.rows l.marks × (drop size l.rows ≡ drop size l.initial.rows) × (drop size l.marks ≡ drop size l.initial.marks)

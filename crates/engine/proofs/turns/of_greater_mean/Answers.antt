@@ -1,19 +1,22 @@
-use Rattle.std.proofs.Common.{refl, inl, inr, arith}
-use Rattle.amount.proofs.Bounds.{within_more}
-use Rattle.engine.proofs.Reading.{times_near}
+use Rattle.std.proofs.Common.{refl, ◌∙◌, inl, inr, arith}
+use Rattle.amount.proofs.Compared.{le_rows}
+use Rattle.engine.specs.Spans.{turn_span}
+use Rattle.engine.proofs.Reading.{can_take}
 use Rattle.engine.proofs.Limited.{mean_at_most, mean_above}
 use Rattle.engine.proofs.turns.of_greater_mean.Goals as goal
 
-pub times-new-requires : goal.times-new-requires
-times-new-requires g c =
-    record { few = c.requires.few.0; exact = within_more _ 172800000000 1000000000000 _ (omega arith) (times_near g.X.Measure.order _ 172800000 _ c.requires.few.0 c.requires.near.1) }
+pub mul-new-requires : goal.mul-new-requires
+mul-new-requires g c = g.met.X.Measure.multiplies.can _ _ (can_take g.X.Scaled.scale _ turn_span _ c.args.held.few (omega arith) c.args.turn.near)
 
-pub times-old-requires : goal.times-old-requires
-times-old-requires g c =
-    record { few = c.requires.few.1; exact = within_more _ 172800000000 1000000000000 _ (omega arith) (times_near g.X.Measure.order _ 172800000 _ c.requires.few.1 c.requires.near.0) }
+pub mul-old-requires : goal.mul-old-requires
+mul-old-requires g c = g.met.X.Measure.multiplies.can _ _ (can_take g.X.Scaled.scale _ turn_span _ c.args.turn.few (omega arith) c.args.held.near)
 
-pub returns-then-at_most : goal.returns-then-at_most
-returns-then-at_most g c = inl (refl, mean_at_most g.X.Measure.order _ _ _ _ _ _ c.times-new.ensures c.times-old.ensures c.if-at_most.ensures)
+pub returns-then-le : goal.returns-then-le
+returns-then-le g c =
+    let x = g.met.X.Measure in
+    inl (refl, mean_at_most g.X.Scaled.scale.order _ _ _ _ _ _ (x.multiplies.gives _ _ _ c.mul-new.ensures) (x.multiplies.gives _ _ _ c.mul-old.ensures) (c.if-le.ensures ∙ le_rows g.X.Scaled.scale g.met.X.Ord.matches_partial_cmp x.compares _ _))
 
-pub returns-else-at_most : goal.returns-else-at_most
-returns-else-at_most g c = inr (refl, mean_above g.X.Measure.order _ _ _ _ _ _ c.times-new.ensures c.times-old.ensures c.if-at_most.ensures)
+pub returns-else-le : goal.returns-else-le
+returns-else-le g c =
+    let x = g.met.X.Measure in
+    inr (refl, mean_above g.X.Scaled.scale.order _ _ _ _ _ _ (x.multiplies.gives _ _ _ c.mul-new.ensures) (x.multiplies.gives _ _ _ c.mul-old.ensures) (c.if-le.ensures ∙ le_rows g.X.Scaled.scale g.met.X.Ord.matches_partial_cmp x.compares _ _))

@@ -1,9 +1,11 @@
-use Rattle.std.proofs.Common.{◌≡◌}
-use Rattle.plan.specs.Plans.{spanned_row}
-use Rattle.plan.proofs.Appending.{Appending}
+use Rattle.std.proofs.Common.{◌≡◌, map, take}
+use Rattle.std.specs.List.{All}
+use Rattle.plan.specs.Records.{Between, recorded}
 use Rattle.plan.proofs.Draft.append.Given as goal
 
+-- the records written so far are those of the first waits
 abbrev pub invariant-loop-i : goal.invariant-loop-i
-invariant-loop-i g l =
-    (l.self.count ≡ l.initial.self.count) × (l.self.events ≡ l.initial.self.events) × (l.self.memory.ghost_name ≡ l.initial.self.memory.ghost_name)
-    × Appending g.X.Measure.places (spanned_row g.X.Measure.places g.X.Measure.row g.X.Measure.wide) l.initial.self.events l.initial.self.count l.initial.self.memory.now (g.N.Network.waits l.net) l.i l.self.memory.now
+invariant-loop-i g l = record {
+  waits : map recorded (take l.i l.records) ≡ take l.i (g.N.Network.graph l.net).waits;
+  between : All (Between (g.N.Network.graph l.net).events) (take l.i l.records);
+}

@@ -1,42 +1,38 @@
-use Rattle.std.proofs.Common.{◌<◌, length, sym, refl, ap, arith, length-set, drop-set-lt, rules}
-use Rattle.amount.specs.Rows.{places}
-use Rattle.plan.specs.Plans.{spanned_row}
-use Rattle.plan.specs.Sound.{meant_length}
-use Rattle.plan.proofs.Written.{first_push}
-use Rattle.plan.proofs.Lists.{put_list, changed_by}
+use Rattle.std.proofs.Common.{◌+◌, refl, sym, subst, rules}
+use Rattle.std.proofs.lemmas.List.Elements.{All-push}
+use Rattle.std.proofs.lemmas.Result.{err_from_is_err_and}
+use Rattle.network.specs.Networks.{PlainWait}
+use Rattle.plan.specs.Records.{Between, recorded}
+use Rattle.plan.proofs.Lists.{meant_length, put_edits, all_edited, edit_changes}
+use Rattle.plan.proofs.Meant.{added_list}
 use Rattle.plan.proofs.Draft.put.Goals as goal
 
-pub returns-then-at-ge-MOST_WAITS : goal.returns-then-at-ge-MOST_WAITS
-returns-then-at-ge-MOST_WAITS g c =
-    let self = c.args.self.now in
-    let e = meant_length g.X.Measure.places (spanned_row g.X.Measure.places g.X.Measure.row g.X.Measure.wide) self.count self.memory.now self.fits in
-    record {
-      rule = (refl, ((search rules, search rules), c.in-Ok.ensures.1, search rules, sym e));
-      lender = refl;
-    }
+pub returns-in_err-record-clause-rule : goal.returns-in_err-record-clause-rule
+returns-in_err-record-clause-rule g c =
+    let p = err_from_is_err_and c.from_residual.result c.from_residual.ensures.1 in
+    rw (p.1, p.2) (refl, ((search rules, search rules), c.in_err-record.ensures))
 
-pub invariant_of-self : goal.invariant_of-self
-invariant_of-self g c =
-    let n = c.args.self.now.events in
-    record { few = search rules; short = search rules; fits = search rules; starts = first_push (λ w. w.start < n) _ _ _ (search rules) (search rules) c.args.self.now.starts; ends = first_push (λ w. w.end < n) _ _ _ (search rules) (search rules) c.args.self.now.ends }
+pub returns-then-at-room-clause-rule : goal.returns-then-at-room-clause-rule
+returns-then-at-room-clause-rule g c =
+    let list = c.args.self.now.list in
+    let n = meant_length recorded list.count list.memory.now list.fits in
+    (refl, ((search rules, search rules), c.in_ok-record.ensures.1, search rules, sym n))
 
-pub returns : goal.returns
-returns g c =
-    let self = c.args.self.now in
-    let d = g.X.Measure.places in
-    let row = spanned_row g.X.Measure.places g.X.Measure.row g.X.Measure.wide in
-    let wait = c.args.wait in
-    let e = meant_length d row self.count self.memory.now self.fits in
-    let in' : self.count < length self.memory.now = search rules in
+pub invariant_of-list-2-clause-known : goal.invariant_of-list-2-clause-known
+invariant_of-list-2-clause-known g c =
+    let list = c.args.self.now.list in
+    let between : Between list.events c.in_ok-record.record = subst (λ (w : PlainWait). Between list.events w) (sym c.in_ok-record.ensures.0) (search rules, search rules) in
+    all_edited (Between list.events) (put_edits list.memory.now list.count _ (search rules)) (All-push (Between list.events) _ _ list.known between)
+
+pub returns-clause-rule : goal.returns-clause-rule
+returns-clause-rule g c =
+    let list = c.args.self.now.list in
+    let n = meant_length recorded list.count list.memory.now list.fits in
     record {
-      rule = record {
-        known = (search rules, search rules);
-        span = c.in-Ok.ensures.1;
-        space = search rules;
-        number = sym e;
-        after = changed_by d row self.events _ self.count _ self.memory.now _ _ refl (simp length-set (omega arith))
-            (put_list d row self.memory.now self.count _ _ in' (ap (λ x. record { start = wait.start; end = wait.end; amount = places d (g.X.Measure.row x) }) c.in-Ok.ensures.0))
-            (length-set self.memory.now self.count _) (drop-set-lt _ self.memory.now self.count _ (omega arith));
-      };
-      lender = refl;
+      known = (search rules, search rules);
+      span = c.in_ok-record.ensures.1;
+      space = search rules;
+      number = sym n;
+      after = edit_changes recorded list.events list.count (list.count + 1) (put_edits list.memory.now list.count _ (search rules))
+          (added_list list.count list.memory.now _ _ c.in_ok-record.ensures.0);
     }

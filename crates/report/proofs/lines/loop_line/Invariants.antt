@@ -1,11 +1,13 @@
-use Rattle.std.proofs.Common.{◌+◌, ◌*◌, ◌≤◌, take}
+use Rattle.std.proofs.Common.{◌≡◌, ◌+◌, ◌*◌, ◌≤◌, ◌++◌, take, codes}
 use Rattle.std.specs.List.{flat_map}
-use Rattle.report.specs.Writing.{Wrote}
+use Rattle.arrayvec.specs.ArrayString.{array_string_len}
 use Rattle.report.specs.Lines.{next_event, starts_of}
 use Rattle.report.proofs.lines.loop_line.Given as goal
 
--- the events so far are written
-abbrev pub invariant-loop-i : goal.invariant-loop-i
-invariant-loop-i g l =
-    Wrote l.initial.text l.text l.initial.end l.end (flat_map next_event (starts_of (g.N.Network.waits l.net) (take l.i-index l.waits)))
-    × (l.end ≤ l.initial.end + 3 * l.i-index)
+-- the events so far are written, each in at most 11 bytes
+abbrev pub invariant-loop-wait : goal.invariant-loop-wait
+invariant-loop-wait g l =
+    record {
+      bytes : l.text.bytes ≡ codes "loop" ++ flat_map next_event (starts_of (g.N.Network.graph l.net).waits (take l.wait-index l.waits));
+      short : array_string_len l.text ≤ 4 + 11 * l.wait-index;
+    }

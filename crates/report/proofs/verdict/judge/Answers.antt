@@ -1,33 +1,47 @@
-use Rattle.std.proofs.Common.{◌≡◌, ℕ, ◌*◌, ◌≤◌, Bool, T, sym, ◌∙◌, subst, arith}
-use Rattle.amount.specs.Rows.{Row, Within, times_row, OrderLaws}
+use Rattle.std.proofs.Common.{◌≡◌, ℕ, T, sym, ap, ◌∙◌, subst, arith}
+use Rattle.std.specs.Cmp.{IsTotalOrder}
+use Rattle.std.specs.declared.cmp.Ordering.{Ordering}
+use Rattle.std.specs.declared.cmp.Ordering.TheVariants.{Less, Equal, Greater}
+use Rattle.std.specs.Ordering.{is_le, ordering_reverse}
+use Rattle.amount.specs.Scales.{Scale, Compares, many_of}
 use Rattle.amount.specs.Groups.{row_group, times}
-use Rattle.amount.proofs.Bounds.{within_more}
-use Rattle.amount.proofs.Multiples.{times_row_lem, within_times}
+use Rattle.amount.proofs.Multiples.{times_row_lem}
+use Rattle.engine.proofs.Reading.{can_take}
+use Rattle.report.specs.declared.verdict.Verdict.{Verdict}
+use Rattle.report.specs.declared.verdict.Verdict.TheVariants.{Right, Short, Long}
+use Rattle.report.specs.Verdicts.{Judged}
 use Rattle.report.proofs.verdict.judge.Goals as goal
 
--- a total taken as often as the other count says stays exact
-exact : {d : ℕ} {le : Row d → Row d → Bool} (o : OrderLaws d le) (k : ℕ) (r : Row d) → k ≤ 1000 → Within d 86400000 r → Within d 1000000000000 (times_row d k r)
-exact {d} o k r h w =
-    subst (Within d 1000000000000) (sym (times_row_lem o k r)) (within_more d (k * 86400000) 1000000000000 (times (row_group o) k r) (omega arith) (within_times o k 86400000 r w))
+pub mul-shown-requires : goal.mul-shown-requires
+mul-shown-requires g c = g.met.X.Measure.multiplies.can _ _ (can_take g.X.Scaled.scale _ 86400000 _ c.requires.claimed.few (omega arith) c.requires.shown.near)
 
-pub times-shown-requires : goal.times-shown-requires
-times-shown-requires g c = record { few = c.requires.claimed.few; exact = exact g.X.Measure.order _ _ c.requires.claimed.few c.requires.shown.near }
+pub mul-claimed-requires : goal.mul-claimed-requires
+mul-claimed-requires g c = g.met.X.Measure.multiplies.can _ _ (can_take g.X.Scaled.scale _ 86400000 _ c.requires.shown.few (omega arith) c.requires.claimed.near)
 
-pub times-claimed-requires : goal.times-claimed-requires
-times-claimed-requires g c = record { few = c.requires.shown.few; exact = exact g.X.Measure.order _ _ c.requires.shown.few c.requires.claimed.near }
+-- the verdict by what `cmp` answers
+abbrev verdict_by : Ordering → Verdict
+verdict_by Less = Long
+verdict_by Equal = Right
+verdict_by Greater = Short
 
--- what the program compares is what the means compare as
-compared : {d : ℕ} {le : Row d → Row d → Bool} (o : OrderLaws d le) (k m : ℕ) (r s x y : Row d) {b : Bool} → x ≡ times_row d k r → y ≡ times_row d m s → b ≡ le x y → b ≡ le (times (row_group o) k r) (times (row_group o) m s)
-compared {le = le} o k m r s x y p q e = let f = p ∙ times_row_lem o k r in let h = q ∙ times_row_lem o m s in e ∙ (λ i. le (f i) (h i))
+-- the total p taken c times and the claimed total t taken q times compare as the means do
+module _ {X : Type 0} (m : Scale X) {cmp : X → X → Ordering} (total : IsTotalOrder cmp) (compares : Compares m cmp) (p t : X) (q c : ℕ) (shown claimed : X) (first : m.row shown ≡ many_of m p c) (second : m.row claimed ≡ many_of m t q) where
+  below : is_le (cmp shown claimed) ≡ m.at_most (times (row_group m.order) c (m.row p)) (times (row_group m.order) q (m.row t))
+  below = compares shown claimed ∙ (λ i. m.at_most ((first ∙ times_row_lem m.order c (m.row p)) i) ((second ∙ times_row_lem m.order q (m.row t)) i))
 
-pub returns-then-not-at_most : goal.returns-then-not-at_most
-returns-then-not-at_most g c h = subst T (sym (compared g.X.Measure.order _ _ _ _ _ _ c.times-shown.ensures c.times-claimed.ensures c.if-not-at_most.ensures)) h
+  above : is_le (ordering_reverse (cmp shown claimed)) ≡ m.at_most (times (row_group m.order) q (m.row t)) (times (row_group m.order) c (m.row p))
+  above = sym (ap is_le (total.antisymm claimed shown)) ∙ compares claimed shown ∙ (λ i. m.at_most ((second ∙ times_row_lem m.order q (m.row t)) i) ((first ∙ times_row_lem m.order c (m.row p)) i))
 
-pub returns-then-not-at_most-2 : goal.returns-then-not-at_most-2
-returns-then-not-at_most-2 g c h = subst T (sym (compared g.X.Measure.order _ _ _ _ _ _ c.times-claimed.ensures c.times-shown.ensures c.if-not-at_most-2.ensures)) h
+  judged : (o : Ordering) → cmp shown claimed ≡ o → Judged (row_group m.order) (m.row p) q (m.row t) c (verdict_by o)
+  judged Less e = λ h. subst T (sym above ∙ ap (λ x. is_le (ordering_reverse x)) e) h
+  judged Equal e = m.order.same _ _ (subst T (sym (ap (λ x. is_le (ordering_reverse x)) e) ∙ above) tt) (subst T (sym (ap is_le e) ∙ below) tt)
+  judged Greater e = λ h. subst T (sym below ∙ ap is_le e) h
 
-pub returns-else-not-at_most-2 : goal.returns-else-not-at_most-2
-returns-else-not-at_most-2 g c =
-    g.X.Measure.order.same _ _
-    (subst T (compared g.X.Measure.order _ _ _ _ _ _ c.times-claimed.ensures c.times-shown.ensures c.if-not-at_most-2.ensures) tt)
-    (subst T (compared g.X.Measure.order _ _ _ _ _ _ c.times-shown.ensures c.times-claimed.ensures c.if-not-at_most.ensures) tt)
+pub returns-in-Greater : goal.returns-in-Greater
+returns-in-Greater g c = judged g.X.Scaled.scale g.met.X.Ord.total g.met.X.Measure.compares _ _ _ _ _ _ (g.met.X.Measure.multiplies.gives _ _ _ c.mul-shown.ensures) (g.met.X.Measure.multiplies.gives _ _ _ c.mul-claimed.ensures) Greater (sym c.in-Greater.ensures)
+
+pub returns-in-Less : goal.returns-in-Less
+returns-in-Less g c = judged g.X.Scaled.scale g.met.X.Ord.total g.met.X.Measure.compares _ _ _ _ _ _ (g.met.X.Measure.multiplies.gives _ _ _ c.mul-shown.ensures) (g.met.X.Measure.multiplies.gives _ _ _ c.mul-claimed.ensures) Less (sym c.in-Less.ensures)
+
+pub returns-in-Equal : goal.returns-in-Equal
+returns-in-Equal g c = judged g.X.Scaled.scale g.met.X.Ord.total g.met.X.Measure.compares _ _ _ _ _ _ (g.met.X.Measure.multiplies.gives _ _ _ c.mul-shown.ensures) (g.met.X.Measure.multiplies.gives _ _ _ c.mul-claimed.ensures) Equal (sym c.in-Equal.ensures)

@@ -1,4 +1,0 @@
-use Rattle.checks.proofs.listing.+close_loops.Given as goal
-
-abbrev pub decreases-close_loops : goal.decreases-close_loops
-decreases-close_loops l = l.left
