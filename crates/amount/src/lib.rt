@@ -5,6 +5,7 @@
 pub mod filed;
 pub mod measure;
 pub mod reversed;
+pub mod reversed_seconds;
 pub mod seconds;
 pub mod seconds_metres;
 pub mod spanned;

@@ -47,7 +47,7 @@ module _ {X : Type 0} (m : Scale X) (t : Tables X) (ready : Ready m t) (n : ℕ)
 
   module _ (new : (f : ℕ) → ¬ (get_or seen x None ≡ Some f)) where
     -- an event met for the first time is not the last: there are only n
-    seen_few : w < N.events
+    pub seen_few : w < N.events
     seen_few = elim (dec_lt w N.events) [ yes h ↦ h | no h ↦ absurd (twice (omega (arith, s.within))) ]
       where
         twice : w ≡ N.events → ⊥

@@ -16,8 +16,11 @@ use std::marker::Model;
 #[derive(Drop)]
 pub(crate) struct Filled<'a, X: Measure, N: Network<X>> {
     net: &'a N,
+    // asked of the network once, which may take long to tell it
+    events: u32,
     rows: &'a [X],
     marks: &'a [u32],
+    ghost counted: { events ≡ (N.graph net.now).events },
 }
 
 impl<'a, X: Measure, N: Network<X>> Model for Filled<'a, X, N> {
@@ -38,7 +41,12 @@ impl<'a, X: Measure, N: Network<X>> Filled<'a, X, N> {
         ensures is { result ≡ tables (N.graph net.now) rows.now marks.now }
         ensures ready { Ready X.scale result }
     {
-        Filled { net, rows, marks }
+        Filled {
+            net,
+            events: net.event_count(),
+            rows,
+            marks,
+        }
     }
 
     /// How many events the network has.
@@ -46,7 +54,7 @@ impl<'a, X: Measure, N: Network<X>> Filled<'a, X, N> {
         ensures is { result ≡ self.now.graph.events }
         ensures ready { Ready X.scale self.now }
     {
-        self.net.event_count()
+        self.events
     }
 
     // The place of the entry for k waits and event v. That it lies inside is asked by each of these: an index has no plainer type.
@@ -54,7 +62,7 @@ impl<'a, X: Measure, N: Network<X>> Filled<'a, X, N> {
         requires { (k ≤ self.now.graph.events) × (v < self.now.graph.events) }
         ensures { result ≡ k * self.now.graph.events + v }
     {
-        k as usize * self.net.event_count() as usize + v as usize
+        k as usize * self.events as usize + v as usize
     }
 
     // The mark of the entry for k waits and event v.

@@ -15,16 +15,17 @@ fn trace_turn<X: Measure, N: Network<X>>(filled: &Filled<'_, X, N>, v: u32) -> T
     ensures { TurnsSo X.scale filled.now v result }
 {
     let n = filled.event_count();
-    // after how many waits an event was met; a local array, since loop space and departures must stay as found
+    // after how many waits an event was met, 1,000 at most: with a u16 the array takes half the room; it is local, since loop
+    // space and departures must stay as found
     let mut seen = [None; MOST_EVENTS as usize];
     let mut at = v;
     let mut walked = 0;
     // walked back until an event is met again; as in `loops`, an iterator that walks back is no plainer
     let first = loop {
         if let Some(first) = seen[at as usize] {
-            break first;
+            break u32::from(first);
         }
-        seen[at as usize] = Some(walked);
+        seen[at as usize] = Some(walked as u16);
         at = filled.start(filled.last_wait(n - walked, at));
         walked += 1;
     };

@@ -1,24 +1,15 @@
 -- The waits of a file of d places, fitted to a measure of D places: whatever D is, they are sound where those that the words
--- spell are. An opened file is of its measure's own number of places, so that the engine needs only D = d.
-use Rattle.std.specs.Prelude.{◌≡◌, ℕ, zero, suc, ◌+◌, ◌<◌, ◌≤◌, false, List, [], ◌∷◌, map, length, ℤ}
-use Rattle.std.specs.List.{range_with_len}
-use Rattle.std.proofs.Common.{sym, subst, arith}
+-- spell are. A file that opens is of its measure's own number of places, and there D is d.
+use Rattle.std.specs.Prelude.{◌≡◌, ℕ, zero, suc, ◌+◌, ◌<◌, ◌≤◌, false, List, [], ◌∷◌, length, ℤ}
+use Rattle.std.proofs.Common.{sym, ◌∙◌, subst, arith}
 use Rattle.std.proofs.lemmas.Int.{ints}
 use Rattle.std.proofs.lemmas.List.FromFn.{length-map-range_with_len, get_or-map-range_with_len}
 use Rattle.amount.specs.Rows.{places, row_of}
 use Rattle.amount.specs.Spans.{span}
-use Rattle.network.specs.Networks.{PlainWait, wait_at, AllWithin, graph, Sound}
+use Rattle.network.specs.Networks.{PlainWait, wait_at, AllWithin, graph, Sound, Owed}
 use Rattle.file.specs.Layout.{base}
-use Rattle.file.specs.Contents.{places_from, wait_in}
-use Rattle.file.proofs.WaitLists.{some_beyond, within}
-
--- a wait with its amount fitted to D places: zeros added, or the last ones dropped
-abbrev pub fitted : ℕ → PlainWait → PlainWait
-fitted D w = record { start = w.start; end = w.end; amount = places D (row_of D w.amount) }
-
--- the first n waits of a file of d places, for a measure of D places; where D is d, these are the waits as spelled
-abbrev pub fitted_waits : ℕ → ℕ → List ℕ → ℕ → List PlainWait
-fitted_waits D d ws n = map (λ j. fitted D (wait_in d ws j)) (range_with_len 0 n)
+use Rattle.file.specs.Contents.{places_from, wait_in, first_waits, fitted, fitted_waits}
+use Rattle.file.proofs.WaitLists.{some_beyond, within, waits_length, waits_at}
 
 -- places that lie within b do so when they are fitted
 within_fitted : (b D : ℕ) (xs : List ℤ) → AllWithin b xs → AllWithin b (places D (row_of D xs))
@@ -46,3 +37,27 @@ module _ (D d : ℕ) (ws : List ℕ) (n : ℕ) where
         subst (λ (w : PlainWait). AllWithin span w.amount) (sym (fitted_at e l))
         (within_fitted span D (places_from d ws (base d e + 1)) (within span (places_from d ws (base d e + 1)) (spans e l)));
   }
+
+  -- and what the waits as spelled owe, they owe when they are fitted
+  pub fitted_owed : (events : ℕ) → Owed (graph events (first_waits d ws n)) → Owed (graph events (fitted_waits D d ws n))
+  fitted_owed events o =
+      let spelled : (e : ℕ) → e < n → e < length (first_waits d ws n) = λ e l. subst (λ m. e < m) (sym (waits_length d ws n)) l in
+      record {
+        few = o.few;
+        short = subst (λ m. m ≤ 20000) (waits_length d ws n ∙ sym fitted_length) o.short;
+        sound = record {
+          starts = λ e h.
+              let l : e < n = subst (λ m. e < m) fitted_length h in
+              subst (λ (w : PlainWait). w.start < events) (sym (fitted_at e l))
+              (subst (λ (w : PlainWait). w.start < events) (waits_at d ws n e l) (o.sound.starts e (spelled e l)));
+          ends = λ e h.
+              let l : e < n = subst (λ m. e < m) fitted_length h in
+              subst (λ (w : PlainWait). w.end < events) (sym (fitted_at e l))
+              (subst (λ (w : PlainWait). w.end < events) (waits_at d ws n e l) (o.sound.ends e (spelled e l)));
+          spans = λ e h.
+              let l : e < n = subst (λ m. e < m) fitted_length h in
+              subst (λ (w : PlainWait). AllWithin span w.amount) (sym (fitted_at e l))
+              (within_fitted span D (places_from d ws (base d e + 1))
+              (subst (λ (w : PlainWait). AllWithin span w.amount) (waits_at d ws n e l) (o.sound.spans e (spelled e l))));
+        };
+      }

@@ -1,5 +1,6 @@
 mod WordLists
 mod WaitLists
+mod FittedRows
 mod ColumnSums
 mod Steps
 mod RightWords

@@ -1,7 +1,7 @@
 -- What the words of a file spell.
 use Rattle.std.specs.Prelude.{ℕ, ◌+◌, ◌-◌, ◌/◌, Bool, cond, List, [], ◌∷◌, map, length, ℤ, Some, None, Option}
 use Rattle.std.specs.List.{range_with_len}
-use Rattle.amount.specs.Rows.{places}
+use Rattle.amount.specs.Rows.{places, row_of}
 use Rattle.amount.specs.Scales.{Scale}
 use Rattle.network.specs.declared.Period.{Period}
 use Rattle.network.specs.Networks.{PlainWait, Graph}
@@ -25,6 +25,14 @@ wait_in d ws j = record { start = middle (word_no ws (base d j)); end = lower (w
 -- the waits that the first n items spell
 abbrev pub first_waits : ℕ → List ℕ → ℕ → List PlainWait
 first_waits d ws n = map (wait_in d ws) (range_with_len 0 n)
+
+-- a wait with its amount fitted to D places: zeros added, or the last ones dropped
+abbrev pub fitted : ℕ → PlainWait → PlainWait
+fitted D w = record { start = w.start; end = w.end; amount = places D (row_of D w.amount) }
+
+-- the first n waits of a file of d places, for a measure of D places; where D is d, these are the waits as spelled
+abbrev pub fitted_waits : ℕ → ℕ → List ℕ → ℕ → List PlainWait
+fitted_waits D d ws n = map (λ j. fitted D (wait_in d ws j)) (range_with_len 0 n)
 
 -- the claim that item j spells
 abbrev pub claim_in : ℕ → List ℕ → ℕ → Period (List ℤ)

@@ -36,7 +36,7 @@ fn claim_of<X: Filed>(bytes: &[u8], outline: Outline) -> Option<Period<X>>
 {
     let at = outline.claim?;
     Some(Period {
-        total: amount_from(bytes, at + 1),
+        total: amount_from(bytes, at + 1, X::PLACES),
         count: words::lower(words::word(bytes, at)),
     })
 }
@@ -54,6 +54,7 @@ pub fn open<'a, X: Filed>(bytes: &'a [u8]) -> Result<Opened<'a, X>, FileFault>
         bytes,
         events: outline.events,
         waits: outline.waits,
+        places: X::PLACES,
         claim,
     })
 }

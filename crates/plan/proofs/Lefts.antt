@@ -46,9 +46,9 @@ module _ {X S : Type 0} (d : ℕ) (p q : Plan S) where
   drops i (Ok u) h = made (drop_wait i) (by_done (Ok u)) refl h.1
   drops i (Err e) h = kept (drop_wait i) (by_done (Err e)) h.0 refl
 
-  takes : (number : ℕ) (bytes : List ℕ) (r : Result ℕ PlanFault) → Appends p (graph (events_in d bytes) (waits_in d bytes)) r q → Next {X = X} d p (take_in number bytes) (by_count r) q
-  takes number bytes (Ok k) h = made (take_in number bytes) (by_count (Ok k)) refl h.3
-  takes number bytes (Err e) h = kept (take_in number bytes) (by_count (Err e)) h.0 refl
+  takes : (number : ℕ) (bytes : List ℕ) (n : ℕ) (r : Result ℕ PlanFault) → Appends p (graph n (waits_in d bytes)) r q → Next {X = X} d p (take_in number bytes) (by_count r) q
+  takes number bytes n (Ok k) h = made (take_in number bytes) (by_count (Ok k)) refl h.3
+  takes number bytes n (Err e) h = kept (take_in number bytes) (by_count (Err e)) h.0 refl
 
   solves : (r : Result (Period X) EngineFault) → q ≡ p → Next d p solve (by_period r) q
   solves (Ok k) e = kept solve (by_period (Ok k)) e refl
@@ -60,7 +60,7 @@ module _ {X S : Type 0} (m : Scale X) where
   ruled p q t u (put w) a h = rw (h.1.0) (puts m.places p q w h.0 h.1.1)
   ruled p q t u (retime i x) a h = rw (h.1.0) (retimes m.places p q i x h.0 h.1.1)
   ruled p q t u (drop_wait i) a h = rw (h.1.0) (drops m.places p q i h.0 h.1.1)
-  ruled p q t u (take_in number bytes) a h = rw (h.1.0) (⊎_elim (λ k. takes m.places p q number bytes h.0 k.1) (λ k. rw (k.1) (kept m.places p q (take_in number bytes) (by_count (Err NotTakenIn)) k.2 refl)) h.1.1)
+  ruled p q t u (take_in number bytes) a h = rw (h.1.0) (⊎_elim (λ k. takes m.places p q number bytes _ h.0 k.1) (λ k. rw (k.1) (kept m.places p q (take_in number bytes) (by_count (Err NotTakenIn)) k.2 refl)) h.1.1)
   ruled p q t u fix a h = rw (h.0, h.1) (record { waits = refl; events = refl })
   ruled p q t u reopen a h = rw (h.0, h.1) (record { waits = refl; events = refl })
   ruled p q t u solve a h = rw (h.1.0) (solves m.places p q h.0 h.1.1)

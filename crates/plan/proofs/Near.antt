@@ -13,7 +13,7 @@ use Rattle.network.specs.Networks.{PlainWait, plain, AllWithin}
 use Rattle.plan.specs.Records.{recorded, MakesRecord}
 
 -- of numbers within b none is beyond
-none_beyond : (b i : ℕ) (xs : List ℤ) → AllWithin b xs → first_beyond b i xs ≡ None
+pub none_beyond : (b i : ℕ) (xs : List ℤ) → AllWithin b xs → first_beyond b i xs ≡ None
 none_beyond b i [] h = refl
 none_beyond b i (x ∷ xs) h =
     let low : true ≡ le_z (neg_ℤ (pos b)) x = omega (arith, ints) in

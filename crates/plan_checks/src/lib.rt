@@ -109,7 +109,8 @@ mod tests {
     // A retime changes the period, and a fixed plan takes no edit.
     #[test]
     fn solved_twice(rt: HostRuntime) -> Result<(), Fail> {
-        let mut space = Space::new(rt.alloc(), 2)?;
+        // longer than two events need
+        let mut space = Space::new(rt.alloc(), 3)?;
         let fix = FiledCall::Other(Call::Fix);
         let solve = FiledCall::Other(Call::Solve);
         let calls = [
@@ -154,7 +155,8 @@ mod tests {
     // A plan opened with too many events has none, and takes in no file.
     #[test]
     fn no_events(rt: HostRuntime) -> Result<(), Fail> {
-        let mut space = Space::new(rt.alloc(), 0)?;
+        // longer than no events need
+        let mut space = Space::new(rt.alloc(), 3)?;
         let calls = [
             (put(0, 0, 5), declined(PlanFault::UnknownEvent(0))),
             (FiledCall::TakeIn(FILE), declined(PlanFault::BadCount(3))),

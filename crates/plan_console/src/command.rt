@@ -130,8 +130,11 @@ impl<'l, X: Filed> TryFrom<&'l str> for Command<X, &'l str> {
 pub(crate) fn read<'l, C: TryFrom<&'l str, Error = Unreadable>>(
     line: &'l [u8],
 ) -> Result<Option<C>, Unreadable> {
-    let text = str::from_utf8(line).map_err(|_| Unreadable::NotText)?;
-    if text.trim().is_empty() {
+    // blanks in front are passed once, and those behind when the words end
+    let text = str::from_utf8(line)
+        .map_err(|_| Unreadable::NotText)?
+        .trim_start();
+    if text.is_empty() {
         return Ok(None);
     }
     Ok(Some(C::try_from(text)?))

@@ -1,3 +1,4 @@
 pub mod Multiples
 pub mod RightPeriods
 pub mod Declined
+pub mod Ascii

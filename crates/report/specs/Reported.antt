@@ -1,7 +1,6 @@
 -- Which text a report is: of a network, of a file, and in the space lent to the entry.
 use Rattle.std.specs.Prelude.{◌≡◌, ℕ, zero, suc, ◌<◌, ◌≤◌, Bool, List, map, length, ℤ, pos, negsuc, Some, None, Option, Ok, Err, Result}
 use Rattle.std.specs.List.{range_with_len}
-use Rattle.arrayvec.specs.ArrayString.{ArrayString}
 use Rattle.refusal.specs.declared.Refusal.{Refusal}
 use Rattle.refusal.specs.declared.Layer.TheVariants.{Report}
 use Rattle.amount.specs.Rows.{Row, places, row_of, OrderLaws}
@@ -28,10 +27,10 @@ use Rattle.report.specs.Reports.{content, ReportOf}
 abbrev pub too_big : ℕ → Refusal
 too_big n = record { number = 14; layer = Report; place = n }
 
--- what is printed of a report: its text, or the line of its refusal
-abbrev pub text_of : Result ArrayString Refusal → List ℕ
-text_of (Ok page) = page.bytes
-text_of (Err refusal) = refusal_line refusal
+-- what is printed of a report: its text, which its page then has, or the line of its refusal
+abbrev pub text_of : List ℕ → Result (Unit {0}) Refusal → List ℕ
+text_of page (Ok done) = page
+text_of page (Err refusal) = refusal_line refusal
 
 module _ {d : ℕ} {le : Row d → Row d → Bool} (order : OrderLaws d le) where
   -- there is a verdict on the period p over q exactly where there is a claim, and it is right

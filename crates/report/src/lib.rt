@@ -2,13 +2,14 @@
 
 #![tactic(auto)]
 
-ghost use Rattle.std.specs.Prelude.{◌≡◌};
+ghost use Rattle.std.specs.Prelude.{◌≡◌, []};
 ghost use Rattle.report.specs.Reported.{FileText, Reported, text_of};
 
 use crate::fault::TooBig;
-use crate::lines::refusal_page;
+use crate::lines::refusal_line;
 use crate::measures::in_named_measure;
 pub use crate::text::Page;
+use crate::text::{append, copy};
 use refusal::Refusal;
 
 mod division;
@@ -29,21 +30,36 @@ const SMALL_PAGE: i64 = -17;
 /// The most bytes that a file has; a longer one is refused as too big.
 pub const MOST_BYTES: usize = 60_000;
 
-// The report on the bytes of a file, or why there is none.
-fn report_on(file: &[u8]) -> Result<Page, Refusal>
-    ensures { FileText file.now (text_of result) }
+// The report on the bytes of a file, on an empty page; or why there is none.
+// The page is handed down from here on: by value it would be copied at each step, and C would have to bring `memcpy`.
+fn report_on(file: &[u8], page: &mut Page) -> Result<(), Refusal>
+    requires { page.old.bytes ≡ [] }
+    ensures { FileText file.now (text_of page.new.bytes result) }
 {
     if file.len() > MOST_BYTES {
         return Err(TooBig(MOST_BYTES as u64).into());
     }
-    in_named_measure(file)
+    in_named_measure(file, page)
+}
+
+// Writes the text of the report on an empty page; where there is none, the line of the refusal.
+fn write_page(file: &[u8], page: &mut Page)
+    requires { page.old.bytes ≡ [] }
+    ensures { FileText file.now page.new.bytes }
+{
+    if let Err(refusal) = report_on(file, page) {
+        page.clear();
+        append(page, &refusal_line(refusal));
+    }
 }
 
 /// The text of the report on the bytes of a file; where there is none, the line of the refusal.
 pub fn page_of(file: &[u8]) -> Page
     ensures { FileText file.now result.bytes }
 {
-    report_on(file).unwrap_or_else(refusal_page)
+    let mut page = Page::new();
+    write_page(file, &mut page);
+    page
 }
 
 /// Writes the report on the bytes of a file into the text space, and answers how many bytes it wrote; -17 if the space is
@@ -54,7 +70,8 @@ pub fn report(file: &[u8], text: &mut [u8]) -> i64
     if text.len() < PAGE {
         return SMALL_PAGE;
     }
-    let page = page_of(file);
-    text[..page.len()].copy_from_slice(page.as_bytes());
-    page.len() as i64
+    let mut whole = Page::new();
+    write_page(file, &mut whole);
+    copy(whole.as_bytes(), &mut text[..whole.len()]);
+    whole.len() as i64
 }

@@ -1,10 +1,11 @@
-//! The lines of a report, each as a text of its own; its type has room for the longest. They are put together piece by piece:
-//! `write!` promises its bytes only on `Ok`, and no clause says when it is `Ok`.
-ghost use Rattle.std.specs.Prelude.{◌≡◌, ℕ, ◌<◌, ◌≤◌, length, slice_index};
+//! The lines of a report, each as a text of its own; its type has room for the longest. That of the loop is long, and goes
+//! straight onto the page. They are put together piece by piece: `write!` promises its bytes only on `Ok`, and no clause says
+//! when it is `Ok`.
+ghost use Rattle.std.specs.Prelude.{◌≡◌, ℕ, ◌+◌, ◌<◌, ◌≤◌, ◌++◌, length, slice_index, IsAscii};
 ghost use Rattle.report.specs.Lines.{places_of, refusal_line, period_line, headway_line, loop_line, starts_of, leaves_line, claim_line};
 
 use crate::measures::Printed;
-use crate::text::{Page, places_of, row_text};
+use crate::text::{Page, append, places_of, row_text};
 use crate::verdict::Verdict;
 use amount::filed::Filed;
 use amount::measure::Measure;
@@ -13,30 +14,32 @@ use itoa::Buffer;
 use network::{Network, Period};
 use refusal::Refusal;
 
-/// The page that says no more than a refusal.
-pub(crate) fn refusal_page(refusal: Refusal) -> Page
-    ensures { result.bytes ≡ refusal_line refusal }
+/// A refusal.
+pub(crate) fn refusal_line(refusal: Refusal) -> ArrayString<47>
+    ensures bytes { result.bytes ≡ refusal_line refusal }
+    ensures ascii { IsAscii result.bytes }
 {
-    let mut page = Page::new();
-    page.push_str("refused ");
-    page.push_str(Buffer::new().format(refusal.number));
-    page.push_str(" ");
-    page.push_str(refusal.layer.word());
-    page.push_str(" ");
-    page.push_str(Buffer::new().format(refusal.place));
-    page.push_str("\n");
-    page
+    let mut line = ArrayString::new();
+    line.push_str("refused ");
+    append(&mut line, Buffer::new().format(refusal.number));
+    line.push_str(" ");
+    append(&mut line, refusal.layer.word());
+    line.push_str(" ");
+    append(&mut line, Buffer::new().format(refusal.place));
+    line.push_str("\n");
+    line
 }
 
 /// The period: its total and its count.
 pub(crate) fn period_line<X: Printed>(period: Period<X>) -> ArrayString<63>
-    ensures { result.bytes ≡ period_line (places_of X.scale period.total) period.count }
+    ensures bytes { result.bytes ≡ period_line (places_of X.scale period.total) period.count }
+    ensures ascii { IsAscii result.bytes }
 {
     let mut line = ArrayString::new();
     line.push_str("period ");
-    line.push_str(&row_text(&places_of(period.total)));
+    append(&mut line, &row_text(&places_of(period.total)));
     line.push_str(" / ");
-    line.push_str(Buffer::new().format(period.count));
+    append(&mut line, Buffer::new().format(period.count));
     line.push_str("\n");
     line
 }
@@ -47,20 +50,21 @@ pub(crate) fn headway_line(headway: i64) -> ArrayString<29>
 {
     let mut line = ArrayString::new();
     line.push_str("headway ");
-    line.push_str(Buffer::new().format(headway));
+    append(&mut line, Buffer::new().format(headway));
     line.push_str("\n");
     line
 }
 
 /// The departure of an event.
 pub(crate) fn departure_line<X: Printed>(event: u8, departure: X) -> ArrayString<53>
-    ensures { result.bytes ≡ leaves_line event (places_of X.scale departure) }
+    ensures bytes { result.bytes ≡ leaves_line event (places_of X.scale departure) }
+    ensures ascii { IsAscii result.bytes }
 {
     let mut line = ArrayString::new();
     line.push_str("leaves ");
-    line.push_str(Buffer::new().format(event));
+    append(&mut line, Buffer::new().format(event));
     line.push_str(" ");
-    line.push_str(&row_text(&places_of(departure)));
+    append(&mut line, &row_text(&places_of(departure)));
     line.push_str("\n");
     line
 }
@@ -71,23 +75,23 @@ pub(crate) fn claim_line(verdict: Verdict) -> ArrayString<12>
 {
     let mut line = ArrayString::new();
     line.push_str("claim ");
-    line.push_str(verdict.word());
+    append(&mut line, verdict.word());
     line.push_str("\n");
     line
 }
 
-/// The start events of a loop of at most 60 waits.
-pub(crate) fn loop_line<X: Measure, N: Network<X>>(net: &N, waits: &[u32]) -> ArrayString<665>
+/// Writes the start events of a loop of at most 60 waits on the page, in at most 665 bytes.
+pub(crate) fn push_loop_line<X: Measure, N: Network<X>>(page: &mut Page, net: &N, waits: &[u32])
     requires brief { length waits.now ≤ 60 }
     requires known { (i : ℕ) → i < length waits.now → slice_index waits.now i < length (N.graph net.now).waits }
-    ensures { result.bytes ≡ loop_line (starts_of (N.graph net.now).waits waits.now) }
+    requires room { length page.old.bytes + 665 ≤ 4096 }
+    ensures wrote { page.new.bytes ≡ page.old.bytes ++ loop_line (starts_of (N.graph net.now).waits waits.now) }
+    ensures short { length page.new.bytes ≤ length page.old.bytes + 665 }
 {
-    let mut text = ArrayString::new();
-    text.push_str("loop");
+    page.push_str("loop");
     for wait in waits {
-        text.push_str(" ");
-        text.push_str(Buffer::new().format(net.wait(*wait).start));
+        page.push_str(" ");
+        append(page, Buffer::new().format(net.wait(*wait).start));
     }
-    text.push_str("\n");
-    text
+    page.push_str("\n");
 }

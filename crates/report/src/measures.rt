@@ -1,5 +1,5 @@
 //! The measures in which a report is printed, and the report in one of them.
-ghost use Rattle.std.specs.Prelude.{◌≡◌, ◌*◌, ◌<◌, ◌≤◌, ◌^◌, ◌==◌, Bool, true, false, not, refl};
+ghost use Rattle.std.specs.Prelude.{◌≡◌, ◌*◌, ◌<◌, ◌≤◌, ◌^◌, ◌==◌, [], Bool, true, false, not, refl};
 ghost use Rattle.std.specs.Mem.{type_size};
 ghost use Rattle.std.proofs.Common.{rules};
 ghost use Rattle.file.specs.Words.{words_of};
@@ -65,10 +65,11 @@ const EVENTS: usize = MOST_EVENTS as usize;
 
 const ENTRIES: usize = (EVENTS + 1) * EVENTS;
 
-/// The report on the bytes of a file, read in one measure; or why there is none.
-fn in_measure<X: Printed>(file: &[u8]) -> Result<Page, Refusal>
+/// The report on the bytes of a file, read in one measure, on an empty page; or why there is none.
+fn in_measure<X: Printed>(file: &[u8], page: &mut Page) -> Result<(), Refusal>
     requires small { 3660 * type_size X.row < 2 ^ 63 }
-    ensures { OpenedText X.scale.order X.NUMBER file.now (text_of result) }
+    requires empty { page.old.bytes ≡ [] }
+    ensures { OpenedText X.scale.order X.NUMBER file.now (text_of page.new.bytes result) }
 {
     let opened = open::<X>(file)?;
     // Local arrays: the library that C links has no heap.
@@ -82,18 +83,20 @@ fn in_measure<X: Printed>(file: &[u8]) -> Result<Page, Refusal>
         leaves: &mut leaves,
         circle: &mut circle,
     };
-    tell_network(&opened, opened.claim(), &mut space)
+    tell_network(&opened, opened.claim(), &mut space, page)
 }
 
-/// The report on the bytes of a file, in the measure that its heading names; where it names none of the three, as in seconds.
-pub(crate) fn in_named_measure(file: &[u8]) -> Result<Page, Refusal>
-    ensures { MeasuredText (measure_of (named_measure (words_of file.now))) file.now (text_of result) }
+/// The report on the bytes of a file, in the measure that its heading names, on an empty page; where it names none of the
+/// three, as in seconds.
+pub(crate) fn in_named_measure(file: &[u8], page: &mut Page) -> Result<(), Refusal>
+    requires { page.old.bytes ≡ [] }
+    ensures { MeasuredText (measure_of (named_measure (words_of file.now))) file.now (text_of page.new.bytes result) }
 {
     let number = named_measure(file).unwrap_or(Seconds::NUMBER);
     // Each arm is a function at another type, so that no table of them can be made.
     match FiledMeasure::try_from(number).unwrap_or(FiledMeasure::Seconds) {
-        FiledMeasure::Seconds => in_measure::<Seconds>(file),
-        FiledMeasure::SecondsMetres => in_measure::<SecondsMetres>(file),
-        FiledMeasure::ReversedSeconds => in_measure::<ReversedSeconds>(file),
+        FiledMeasure::Seconds => in_measure::<Seconds>(file, page),
+        FiledMeasure::SecondsMetres => in_measure::<SecondsMetres>(file, page),
+        FiledMeasure::ReversedSeconds => in_measure::<ReversedSeconds>(file, page),
     }
 }

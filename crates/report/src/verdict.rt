@@ -19,12 +19,14 @@ pub enum Verdict {
 }
 
 impl Verdict {
+    ghost use Rattle.std.specs.Prelude.{IsAscii};
     ghost use Rattle.report.specs.Lines.{verdict_word};
 
     /// The word for it, of at most five letters.
     pub(crate) fn word(self) -> &'static str
         ensures word { result.now ≡ verdict_word self }
         ensures short { length result.now ≤ 5 }
+        ensures ascii { IsAscii result.now }
     {
         match self {
             Verdict::Right => "right",

@@ -1,4 +1,4 @@
-use Rattle.std.proofs.Common.{◌+◌, sym, ap, ◌∙◌, subst, ap₂, arith}
+use Rattle.std.proofs.Common.{◌+◌, Some, sym, ap, ◌∙◌, subst, ap₂, arith}
 use Rattle.amount.specs.Rows.{Within, add_row, neg_row}
 use Rattle.amount.specs.Scales.{exact}
 use Rattle.amount.proofs.Bounds.{within_more}
@@ -43,5 +43,5 @@ invariant_of-result g c =
 pub returns : goal.returns
 returns g c =
     let m = g.X.Scaled.scale in
-    seen_turns m _ c.event_count-n.ensures.ready _ c.event_count-n.ensures.is c.args.v c.requires.known c.requires.live c.loop-seen.seen c.loop-seen.at c.loop-seen.walked c.loop-seen.invariant c.in-Some.first c.in-Some.is _
+    seen_turns m _ c.event_count-n.ensures.ready _ c.event_count-n.ensures.is c.args.v c.requires.known c.requires.live c.loop-seen.seen c.loop-seen.at c.loop-seen.walked c.loop-seen.invariant c.from-first.result (c.in-Some.is ∙ ap Some (sym c.from-first.ensures)) _
     (g.met.X.Measure.subtracts.gives _ _ _ c.sub.ensures ∙ ap₂ (add_row m.places) c.row.ensures.is (ap (neg_row m.places) c.row-2.ensures.is))

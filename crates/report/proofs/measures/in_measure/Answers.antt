@@ -35,7 +35,7 @@ pub returns : goal.returns
 returns g c =
     let m = g.X.Scaled.scale in
     let a = c.in_ok-opened.ensures.answered in
-    opened a.0 (spelled m g.X.Filed.NUMBER _ c.in_ok-opened.opened.claim c.claim.result (contents m.places (words_of c.args.file.now)) (text_of c.tell_network.result) c.claim.ensures a.1 c.tell_network.ensures)
+    opened a.0 (spelled m g.X.Filed.NUMBER _ c.in_ok-opened.opened.claim c.claim.result (contents m.places (words_of c.args.file.now)) (text_of c.tell_network.new.page.bytes c.tell_network.result) c.claim.ensures a.1 c.tell_network.ensures)
 
 pub returns-in_err-opened : goal.returns-in_err-opened
-returns-in_err-opened g c = refused c.in_err-opened.field-0.0 c.in_err-opened.ensures.answered (declined_text c.from_residual.result (told c.in_err-opened.field-0.0) c.from_residual.ensures.1)
+returns-in_err-opened g c = refused c.in_err-opened.field-0.0 c.in_err-opened.ensures.answered (declined_text _ c.from_residual.result (told c.in_err-opened.field-0.0) c.from_residual.ensures.1)

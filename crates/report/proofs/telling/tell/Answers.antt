@@ -31,6 +31,7 @@ report_page-requires g c =
       brief = omega arith;
       known = known o sound c.requires.right;
       few = omega arith;
+      empty = c.requires.empty;
     }
 
 pub returns : goal.returns
@@ -49,5 +50,5 @@ returns g c =
       verdict = c.judged-verdict.result;
       right = c.requires.right;
       judged = c.judged-verdict.ensures;
-      report = subst (λ rs. ReportOf (content g.X.Filed.NUMBER (places m.places (m.row c.args.period.total)) c.args.period.count (starts_of graph.waits es) rs c.judged-verdict.result) c.report_page.result.bytes) rows c.report_page.ensures;
+      report = subst (λ rs. ReportOf (content g.X.Filed.NUMBER (places m.places (m.row c.args.period.total)) c.args.period.count (starts_of graph.waits es) rs c.judged-verdict.result) c.report_page.new.page.bytes) rows c.report_page.ensures;
     }

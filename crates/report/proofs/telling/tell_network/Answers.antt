@@ -27,5 +27,5 @@ declined m number g claim (NoLoop k) old new h e s = loopless h s.none (ap (λ j
 pub returns-in_err-period : goal.returns-in_err-period
 returns-in_err-period g c =
     let f = c.in_err-period.field-0.0 in
-    rw (declined_text c.from_residual.result (told f) c.from_residual.ensures.1)
+    rw (declined_text _ c.from_residual.result (told f) c.from_residual.ensures.1)
     (declined g.X.Scaled.scale _ _ _ f _ _ (omega arith) c.requires.enough c.in_err-period.ensures.solved)

@@ -4,7 +4,7 @@ use Rattle.amount.specs.Rows.{places}
 use Rattle.amount.specs.Scales.{Scale}
 use Rattle.report.specs.Lines.{leaves_line}
 use Rattle.report.specs.Reports.{rows_of, leaves_lines}
-use Rattle.report.proofs.page.departure_lines.Goals as goal
+use Rattle.report.proofs.page.push_departure_lines.Goals as goal
 
 -- one more departure at the end
 push : (v : ℕ) (rs : List (List ℤ)) (r : List ℤ) → leaves_lines v (rs ++ (r ∷ [])) ≡ leaves_lines v rs ++ leaves_line (v + length rs) r
@@ -22,7 +22,12 @@ further m xs i x h e =
     ap (leaves_lines 0) (map_more (λ y. places m.places (m.row y)) xs i x h ∙ ap (λ y. rs ++ (places m.places (m.row y) ∷ [])) (sym e))
     ∙ push 0 rs (places m.places (m.row x)) ∙ ap (λ k. leaves_lines 0 rs ++ leaves_line k (places m.places (m.row x))) l
 
+-- a line after others, past what the page had
+grown : (initial before after line lines more : List ℕ) → before ≡ initial ++ lines → after ≡ before ++ line → more ≡ lines ++ line → after ≡ initial ++ more
+grown initial before after line lines more written wrote further =
+    wrote ∙ ap (λ q. q ++ line) written ∙ append_assoc initial lines line ∙ ap (λ q. initial ++ q) (sym further)
+
 pub loop-event-preserved : goal.loop-event-preserved
 loop-event-preserved g c =
     let one_more = further g.X.Scaled.scale c.args.departures.now c.loop-event.event c.index-departures-event.result (omega arith) c.index-departures-event.is in
-    record { bytes = cc; short = omega arith }
+    record { bytes = grown _ _ _ _ _ _ c.loop-event.invariant.bytes c.push_departure_line.ensures.wrote one_more; short = omega arith }
