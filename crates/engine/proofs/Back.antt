@@ -10,10 +10,14 @@ use Rattle.engine.specs.Turns.{back, way, Told}
 use Rattle.engine.proofs.Entries
 use Rattle.engine.proofs.Entries.{Live, Right}
 
+-- an entry is live as its mark tells
+pub live_if : (k m : ℕ) → (0 < k → 0 < m) → Live k m
+live_if zero m h = tt
+live_if (suc k) m h = h (omega arith)
+
 -- where there is a mark there is a walk
 pub live_marked : (k m : ℕ) → 0 < m → Live k m
-live_marked zero m h = tt
-live_marked (suc k) m h = h
+live_marked k m h = live_if k m (λ _. h)
 
 pub marked_live : (k m : ℕ) → 0 < k → Live k m → 0 < m
 marked_live zero m h l = absurd (omega arith)

@@ -1,16 +1,22 @@
 -- The limiting turn, event by event.
-use Rattle.std.proofs.Common.{◌≡◌, ℕ, ◌+◌, ◌<◌, Bool, true, false, T, Some, None, Option, sym, ◌∙◌, subst, subst₂, ⊎_elim, below_more}
+use Rattle.std.proofs.Common.{◌≡◌, ℕ, ◌+◌, ◌-◌, ◌<◌, ◌≤◌, Bool, true, false, T, Some, None, Option, sym, ◌∙◌, subst, subst₂, ⊎_elim, arith, below_more}
 use Rattle.amount.specs.declared.measure.Scaled.{Ghosts}
-use Rattle.amount.specs.Rows.{Row, times_row, OrderLaws}
+use Rattle.amount.specs.Rows.{Row, times_row, Within, OrderLaws}
 use Rattle.amount.specs.Scales.{Scale}
 use Rattle.amount.specs.Groups.{Ordered, row_group}
 use Rattle.amount.proofs.Multiples.{times_row_lem}
+use Rattle.network.specs.Networks.{Graph, Sound}
 use Rattle.network.specs.Walks.{Net, net, MeanLe}
 use Rattle.network.proofs.Toolkit
+use Rattle.network.proofs.Joined.{joined}
+use Rattle.engine.specs.Spans.{entry_span, turn_span}
 use Rattle.engine.specs.declared.turn.Turn.{Turn}
 use Rattle.engine.specs.Turns.{Turns, TurnsBelow}
 use Rattle.engine.specs.Filled.{Tables, mark_in, row_in}
 use Rattle.engine.specs.Limits.{TurnsSo, OfGreaterMean, NoGreater, Limit, Limiting}
+use Rattle.engine.proofs.Entries.{Right}
+use Rattle.engine.proofs.Reading.{gap_near, entry_within}
+use Rattle.engine.proofs.Turning
 
 -- two means, compared as rows taken i and k times
 module _ {d : ℕ} {le : Row d → Row d → Bool} (order : OrderLaws d le) (a b x y : Row d) (i k : ℕ) (first : x ≡ times_row d i a) (second : y ≡ times_row d k b) where
@@ -59,3 +65,19 @@ module _ {X : Type 0} {R : Ghosts X} (m : Scale X) (t : Tables X) where
       (λ h. subst (λ y. Limit m t (v + 1) y) (sym h.0)
       (record { v = v; turns = turns; most = below_more (NoGreater m t u) v (λ w k live. turns_wider G N D M _ _ _ _ w l.turns.some h.1 (l.most w k live)) (λ live. own) }))
       greater
+
+-- a turn in right tables
+module _ {d : ℕ} {le : Row d → Row d → Bool} (order : OrderLaws d le) (g : Graph) (sound : Sound g) (few : g.events ≤ 1000) (D : ℕ → ℕ → Row d) (M : ℕ → ℕ → ℕ) (right : Right (row_group order) (net d g) D M)
+    (v j x c : ℕ) (p : Row d) (t : Turns (row_group order) (net d g) D M v j x c p) where
+  turn_event : x < g.events
+  turn_event = Turning.turn_in (row_group order) (net d g) (joined d g sound) D M right v j x c p t
+
+  -- its total lies near zero
+  pub turn_near : Within d turn_span p
+  turn_near =
+      subst (λ y. Within d (entry_span + entry_span) y) (sym t.comes)
+      (gap_near d entry_span _ _ (entry_within order g sound few j x _ _ t.within (right j x t.within turn_event)) (entry_within order g sound few (j - c) x _ _ (omega (arith, t.within)) (right (j - c) x (omega (arith, t.within)) turn_event)))
+
+  -- and it takes few waits
+  pub turn_few : c ≤ 1000
+  turn_few = omega (arith, t.within, t.held)

@@ -1,5 +1,5 @@
 -- The greatest of what the entries of an event offer it, entry by entry.
-use Rattle.std.proofs.Common.{◌≡◌, ℕ, zero, suc, ◌+◌, ◌<◌, cond, T, sym, refl, ap, ◌∙◌, subst, inl, inr, arith, below_more}
+use Rattle.std.proofs.Common.{◌≡◌, ℕ, zero, suc, ◌+◌, ◌<◌, cond, false, T, sym, refl, ap, ◌∙◌, subst, inl, inr, ⊎_elim, arith, below_more}
 use Rattle.std.specs.declared.cmp.Ordering.{Ordering}
 use Rattle.std.specs.declared.cmp.Ordering.TheVariants.{Less, Equal, Greater}
 use Rattle.std.specs.Ordering.{is_le, is_lt, ord_max, ordering_reverse}
@@ -9,6 +9,10 @@ use Rattle.amount.specs.Groups.{Ordered, row_group, times}
 use Rattle.network.proofs.Toolkit
 use Rattle.engine.specs.Tables.{Live}
 use Rattle.engine.specs.Turns.{offer, Later, TopOffer}
+
+-- what is not at most the other is the later
+pub later_new : {A : Type 0} (G : Ordered A) (x y : A) → false ≡ G.leq y x → Later G x y y
+later_new G x y e = inr (refl, ⊎_elim (λ h. h) (λ h. absurd (subst T (sym e) h)) (G.total x y))
 
 -- the greater of two amounts is the later of their rows
 pub later_max : {X : Type 0} (m : Scale X) {cmp : X → X → Ordering} → Compares m cmp → IsTotalOrder cmp → (a b : X) → Later (row_group m.order) (m.row a) (m.row b) (m.row (ord_max cmp a b))
@@ -20,7 +24,7 @@ later_max {X = X} m {cmp = cmp} compares orders a b = go (cmp b a) refl
     go : (o : Ordering) → cmp b a ≡ o → Later (row_group m.order) (m.row a) (m.row b) (m.row (cond (is_lt o) a b))
     go Less e = inl (refl, at_most b a Less e tt)
     go Equal e = inr (refl, at_most a b Equal (orders.antisymm a b ∙ ap ordering_reverse e) tt)
-    go Greater e = inr (refl, at_most a b Less (orders.antisymm a b ∙ ap ordering_reverse e) tt)
+    go Greater e = later_new (row_group m.order) (m.row a) (m.row b) (ap is_le (sym e) ∙ compares b a)
 
 module _ {A : Type 0} (G : Ordered A) (d : ℕ → ℕ → A) (m : ℕ → ℕ → ℕ) (p : A) (q v : ℕ) where
   -- the walk of no waits gives zero

@@ -1,14 +1,16 @@
--- How near zero the engine's sums, differences and multiples lie, and what is read in filled tables.
+-- How near zero the engine's entries, differences and multiples lie, and where an entry lies in a table.
 use Rattle.std.proofs.Common.{ℕ, ◌+◌, ◌*◌, ◌<◌, ◌≤◌, Bool, sym, subst, mul-le-mul_right, suc-mul, add-one, arith}
-use Rattle.amount.specs.Rows.{Row, times_row, Within, OrderLaws}
-use Rattle.amount.specs.Scales.{Scale, exact, gap_of, CanMul}
+use Rattle.amount.specs.Rows.{Row, add_row, neg_row, times_row, Within, OrderLaws}
+use Rattle.amount.specs.Scales.{Scale, exact, CanMul}
+use Rattle.amount.specs.Groups.{row_group}
 use Rattle.amount.specs.Spans.{span}
 use Rattle.amount.proofs.Bounds.{within_more, within_add, within_neg}
 use Rattle.amount.proofs.Multiples.{times_row_lem, within_times}
+use Rattle.network.specs.Networks.{Graph, Sound}
 use Rattle.network.specs.Walks.{net}
 use Rattle.engine.specs.Spans.{entry_span}
+use Rattle.engine.specs.Tables.{Entry}
 use Rattle.engine.specs.Solved.{table_size}
-use Rattle.engine.specs.Filled.{Tables, Ready, row_in}
 use Rattle.engine.proofs.Magnitudes.{amount_near, entry_near}
 
 -- a row taken up to a thousand times
@@ -19,15 +21,14 @@ times_near {d = d} order k b r few near = subst (λ y. Within d (1000 * b) y) (s
 pub can_take : {X : Type 0} (m : Scale X) (k b : ℕ) (x : X) → k ≤ 1000 → b ≤ 1000000000 → Within m.places b (m.row x) → CanMul m x k
 can_take m k b x few small near = (few, within_more m.places (1000 * b) exact _ (omega arith) (times_near m.order k b (m.row x) few near))
 
--- two amounts near zero can be subtracted
-pub gap_near : {X : Type 0} (m : Scale X) (b : ℕ) (x y : X) → Within m.places b (m.row x) → Within m.places b (m.row y) → Within m.places (b + b) (gap_of m x y)
-gap_near m b x y h k = within_add m.places b b _ _ h (within_neg m.places b (m.row y) k)
+-- the difference of two rows near zero
+pub gap_near : (d b : ℕ) (r s : Row d) → Within d b r → Within d b s → Within d (b + b) (add_row d r (neg_row d s))
+gap_near d b r s h k = within_add d b b _ _ h (within_neg d b s k)
 
 -- row k lies in a table of n + 1 rows
 pub place_inside : (n k v : ℕ) → k ≤ n → v < n → k * n + v < table_size n
 place_inside n k v h b = rw add-one (omega (arith, mul-le-mul_right n h, suc-mul n n))
 
-module _ {X : Type 0} (m : Scale X) (t : Tables X) (ready : Ready m t) (k v : ℕ) (within : k ≤ t.graph.events) (here : v < t.graph.events) where
-  -- an entry's row lies near zero
-  pub entry_within : Within m.places entry_span (row_in m t k v)
-  entry_within = within_more m.places (k * span) entry_span _ (omega (arith, ready.owed.few)) (entry_near m.order (net m.places t.graph) span (amount_near m.places t.graph ready.owed.sound) k v _ _ (ready.entries k v within here))
+-- the row of an entry lies near zero
+pub entry_within : {d : ℕ} {le : Row d → Row d → Bool} (order : OrderLaws d le) (g : Graph) → Sound g → g.events ≤ 1000 → (k v : ℕ) (x : Row d) (y : ℕ) → k ≤ g.events → Entry (row_group order) (net d g) k v x y → Within d entry_span x
+entry_within {d = d} order g sound few k v x y within entry = within_more d (k * span) entry_span x (omega arith) (entry_near order (net d g) span (amount_near d g sound) k v x y entry)

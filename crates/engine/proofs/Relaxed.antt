@@ -35,6 +35,10 @@ abbrev pub Part : {A : Type 0} → Ordered A → Net A → ℕ → (ℕ → A) �
 Part G N k d m c v x y = Taken G N k d m c v x y ⊎ Empty G N k m c v x y
 
 module _ {A : Type 0} (G : Ordered A) (N : Net A) (k : ℕ) (d : ℕ → A) (m : ℕ → ℕ) (v : ℕ) where
+  -- before any wait is looked at
+  pub part_none : Part G N k d m 0 v G.nil 0
+  part_none = inr (record { row = refl; mark = refl; none = λ f h. absurd (omega arith) })
+
   -- a wait that brings nothing here
   pub part_skip : (c : ℕ) (x : A) (y : ℕ) → ¬ Offers N k m v c → Part G N k d m c v x y → Part G N k d m (c + 1) v x y
   part_skip c x y not-here p =

@@ -1,17 +1,15 @@
 -- A walk walked back until an event comes a second time, with the events met on the way noted down.
-use Rattle.std.proofs.Common.{◌≡◌, ℕ, pred, ◌+◌, ◌-◌, ◌<◌, ◌≤◌, ◌≢◌, List, length, get_or, set, replicate, Some, None, Option, sym, refl, ap, ◌∙◌, subst₂, arith, length-set, get_or-set_other, get_or-set_same, below_more}
+use Rattle.std.proofs.Common.{◌≡◌, ℕ, pred, ◌+◌, ◌-◌, ◌<◌, ◌≤◌, ◌≢◌, List, length, get_or, set, replicate, Some, None, Option, sym, refl, ap, ◌∙◌, subst, subst₂, arith, length-set, get_or-set_other, get_or-set_same, below_more}
 use lib.ListN.{length-replicate}
 use native.Mathlib.Decide.{dec_lt, ℕ_discrete}
 use Rattle.std.proofs.lemmas.List.{get_or-replicate, get_or_past}
 use Rattle.std.proofs.lemmas.Option.{none-some, same_Some}
-use Rattle.amount.specs.Rows.{Row, add_row, neg_row}
-use Rattle.amount.specs.Scales.{Scale}
-use Rattle.amount.specs.Groups.{row_group}
-use Rattle.network.specs.Walks.{Net, net}
-use Rattle.network.proofs.Joined.{joined}
+use Rattle.amount.specs.Groups.{Ordered}
+use Rattle.network.specs.Walks.{Net}
+use Rattle.network.proofs.Joined.{Joined}
 use Rattle.network.proofs.Pigeon.{pigeon}
 use Rattle.engine.specs.Turns.{back, Turns}
-use Rattle.engine.specs.Filled.{Tables, Ready, row_in, mark_in}
+use Rattle.engine.proofs.Entries.{Right}
 use Rattle.engine.proofs.Back
 use Rattle.engine.proofs.Back.{live_marked, back_plus, back_from}
 
@@ -37,64 +35,58 @@ module _ {A : Type 0} (N : Net A) (m : ℕ → ℕ → ℕ) (v : ℕ) where
       let r : a ≡ b = same_Some a b (sym (s.noted a (omega arith)) ∙ ap (λ y. get_or seen y None) same ∙ s.noted b k) in
       omega (arith, r)
 
-module _ {X : Type 0} (m : Scale X) (t : Tables X) (ready : Ready m t) (n : ℕ) (same : n ≡ t.graph.events) (v : ℕ) (known : v < t.graph.events) (live : 0 < mark_in t t.graph.events v)
-    (seen : List (Option ℕ)) (x w : ℕ) (s : Seen (net m.places t.graph) (mark_in t) v seen x w) where
-  abbrev N : Net (Row m.places)
-  N = net m.places t.graph
+module _ {A : Type 0} (G : Ordered A) (N : Net A) (ok : Joined N) (d : ℕ → ℕ → A) (m : ℕ → ℕ → ℕ) (right : Right G N d m) (n : ℕ) (same : n ≡ N.events) (v : ℕ) (known : v < N.events) (live : 0 < m N.events v)
+    (seen : List (Option ℕ)) (x t : ℕ) (s : Seen N m v seen x t) where
+  -- an event met for the first time is not the last: there are only n
+  pub seen_few : ((f : ℕ) → ¬ (get_or seen x None ≡ Some f)) → t < N.events
+  seen_few new = elim (dec_lt t N.events) [ yes h ↦ h | no h ↦ absurd (twice (omega (arith, s.within))) ]
+    where
+      twice : t ≡ N.events → ⊥
+      twice all =
+          let r = pigeon N.events (back N m N.events v) (λ i h. Back.back_in G N ok d m right i N.events v h (omega arith) known (live_marked _ _ live)) in
+          elim (dec_lt r.1 t) [
+            | yes l ↦ seen_apart N m v seen x t s r.0 r.1 r.2 l r.4
+            | no l ↦
+                let last : r.1 ≡ t = omega (arith, all, r.3) in
+                new r.0 (ap (λ y. get_or seen y None) (sym s.is ∙ sym (ap (back N m N.events v) last) ∙ sym r.4) ∙ s.noted r.0 (omega (arith, r.2)))
+          ]
 
-  abbrev M : ℕ → ℕ → ℕ
-  M = mark_in t
+  -- and fewer of them are left
+  pub seen_fewer : ((f : ℕ) → ¬ (get_or seen x None ≡ Some f)) → n - (t + 1) < n - t
+  seen_fewer new = omega (arith, same, seen_few new)
 
-  module _ (new : (f : ℕ) → ¬ (get_or seen x None ≡ Some f)) where
-    -- an event met for the first time is not the last: there are only n
-    pub seen_few : w < N.events
-    seen_few = elim (dec_lt w N.events) [ yes h ↦ h | no h ↦ absurd (twice (omega (arith, s.within))) ]
-      where
-        twice : w ≡ N.events → ⊥
-        twice all =
-            let r = pigeon N.events (back N M N.events v) (λ i h. Back.back_in (row_group m.order) N (joined m.places t.graph ready.owed.sound) (row_in m t) M ready.entries i N.events v h (omega arith) known (live_marked _ _ live)) in
-            elim (dec_lt r.1 w) [
-              | yes l ↦ seen_apart N M v seen x w s r.0 r.1 r.2 l r.4
-              | no l ↦
-                  let last : r.1 ≡ w = omega (arith, all, r.3) in
-                  new r.0 (ap (λ y. get_or seen y None) (sym s.is ∙ sym (ap (back N M N.events v) last) ∙ sym r.4) ∙ s.noted r.0 (omega (arith, r.2)))
-            ]
+  -- the mark there names a wait
+  pub seen_told : t < N.events → (0 < m (n - t) x) × (pred (m (n - t) x) < N.waits)
+  seen_told h =
+      let r = Back.told G N ok d m right N.events v N.events (omega arith) (omega arith) known (live_marked _ _ live) t h in
+      subst₂ (λ i y. (0 < m (i - t) y) × (pred (m (i - t) y) < N.waits)) (sym same) s.is (r.1, r.2)
 
-    pub seen_fewer : n - (w + 1) < n - w
-    seen_fewer = omega (arith, same, seen_few)
-
-    -- the mark there names a wait
-    pub seen_marked : 0 < M (n - w) x
-    seen_marked =
-        subst₂ (λ i y. 0 < M (i - w) y) (sym same) s.is
-        (Back.told (row_group m.order) N (joined m.places t.graph ready.owed.sound) (row_in m t) M ready.entries N.events v N.events (omega arith) (omega arith) known (live_marked _ _ live) w seen_few).1
-
-    -- and one more wait is walked back
-    pub seen_more : (e y : ℕ) → e ≡ pred (M (n - w) x) → y ≡ N.from e → y < N.events → Seen N M v (set seen x (Some w)) y (w + 1)
-    seen_more e y wait start there =
-        record {
-          within = omega (arith, seen_few);
-          here = there;
-          is = back_from N M w N.events v x e y s.is (wait ∙ ap (λ i. pred (M (i - w) x)) same) start;
-          noted = below_more (λ a. get_or (set seen x (Some w)) (back N M N.events v a) None ≡ Some a) w
-              (λ a h. get_or-set_other seen x (back N M N.events v a) (Some w) None (λ met. new a (ap (λ i. get_or seen i None) (sym met) ∙ s.noted a h)) ∙ s.noted a h)
-              (ap (λ i. get_or (set seen x (Some w)) i None) s.is ∙ noted);
-          only = λ y a h. elim (ℕ_discrete y x) [
-            | yes e ↦
-                let f : w ≡ a = same_Some w a (sym (ap (λ i. get_or (set seen x (Some w)) i None) e ∙ noted) ∙ h) in
-                (omega (arith, f), ap (back N M N.events v) (sym f) ∙ s.is ∙ sym e)
-            | no e ↦
-                let r = s.only y a (sym (get_or-set_other seen x y (Some w) None e) ∙ h) in
-                (omega (arith, r.0), r.1)
-          ];
-          size = length-set seen x (Some w) ∙ s.size;
-        }
-      where
-        noted : get_or (set seen x (Some w)) x None ≡ Some w
-        noted = get_or-set_same seen x (Some w) None (omega (arith, s.here, s.size, ready.owed.few))
+  -- and to the event y, where it starts, one more wait is walked back
+  pub seen_more : N.events ≤ 1000 → ((f : ℕ) → ¬ (get_or seen x None ≡ Some f)) → (e y : ℕ) → e ≡ pred (m (n - t) x) → y ≡ N.from e → Seen N m v (set seen x (Some t)) y (t + 1)
+  seen_more few new e y wait start =
+      record {
+        within = omega (arith, seen_few new);
+        here = subst (λ i. i < N.events) (sym start) (ok.starts e (subst (λ i. i < N.waits) (sym wait) (seen_told (seen_few new)).1));
+        is = back_from N m t N.events v x e y s.is (wait ∙ ap (λ i. pred (m (i - t) x)) same) start;
+        noted = below_more (λ a. get_or (set seen x (Some t)) (back N m N.events v a) None ≡ Some a) t
+            (λ a h. get_or-set_other seen x (back N m N.events v a) (Some t) None (λ met. new a (ap (λ i. get_or seen i None) (sym met) ∙ s.noted a h)) ∙ s.noted a h)
+            (ap (λ i. get_or (set seen x (Some t)) i None) s.is ∙ noted);
+        only = λ y a h. elim (ℕ_discrete y x) [
+          | yes e ↦
+              let f : t ≡ a = same_Some t a (sym (ap (λ i. get_or (set seen x (Some t)) i None) e ∙ noted) ∙ h) in
+              (omega (arith, f), ap (back N m N.events v) (sym f) ∙ s.is ∙ sym e)
+          | no e ↦
+              let r = s.only y a (sym (get_or-set_other seen x y (Some t) None e) ∙ h) in
+              (omega (arith, r.0), r.1)
+        ];
+        size = length-set seen x (Some t) ∙ s.size;
+      }
+    where
+      noted : get_or (set seen x (Some t)) x None ≡ Some t
+      noted = get_or-set_same seen x (Some t) None (omega (arith, s.here, s.size, few))
 
   -- an event met again closes a turn
-  pub seen_turns : (f : ℕ) → get_or seen x None ≡ Some f → (p : Row m.places) → p ≡ add_row m.places (row_in m t (n - f) x) (neg_row m.places (row_in m t (n - w) x)) → Turns (row_group m.order) N (row_in m t) M v (n - f) x (w - f) p
+  pub seen_turns : (f : ℕ) → get_or seen x None ≡ Some f → (p : A) → p ≡ G.add (d (n - f) x) (G.neg (d (n - t) x)) → Turns G N d m v (n - f) x (t - f) p
   seen_turns f again p comes =
       let r = s.only x f again in
       record {
@@ -103,20 +95,20 @@ module _ {X : Type 0} (m : Scale X) (t : Tables X) (ready : Ready m t) (n : ℕ)
         within = omega (arith, same);
         some = omega (arith, r.0);
         held = omega (arith, s.within, same);
-        on = ap (back N M N.events v) (again_to (omega (arith, r.0, s.within))) ∙ r.1;
-        closes = sym (later (w - f) r.1) ∙ ap (back N M N.events v) (upto r.0) ∙ s.is;
-        apart = λ a b h k met. seen_apart N M v seen x w s (f + a) (f + b) (omega arith) (omega arith) (later a r.1 ∙ met ∙ sym (later b r.1));
-        comes = comes ∙ ap (λ i. add_row m.places (row_in m t (n - f) x) (neg_row m.places (row_in m t i x))) (rest r.0);
+        on = ap (back N m N.events v) (again_to (omega (arith, r.0, s.within))) ∙ r.1;
+        closes = sym (later (t - f) r.1) ∙ ap (back N m N.events v) (upto r.0) ∙ s.is;
+        apart = λ a b h k met. seen_apart N m v seen x t s (f + a) (f + b) (omega arith) (omega arith) (later a r.1 ∙ met ∙ sym (later b r.1));
+        comes = comes ∙ ap (λ i. G.add (d (n - f) x) (G.neg (d i x))) (rest r.0);
       }
     where
       again_to : f ≤ N.events → N.events - (n - f) ≡ f
       again_to h = omega (arith, same)
 
-      upto : f < w → f + (w - f) ≡ w
+      upto : f < t → f + (t - f) ≡ t
       upto h = omega arith
 
-      rest : f < w → n - w ≡ n - f - (w - f)
+      rest : f < t → n - t ≡ n - f - (t - f)
       rest h = omega arith
 
-      later : (i : ℕ) → back N M N.events v f ≡ x → back N M N.events v (f + i) ≡ back N M (n - f) x i
-      later i e = back_plus N M f i N.events v ∙ ap (λ y. back N M (N.events - f) y i) e ∙ ap (λ j. back N M (j - f) x i) (sym same)
+      later : (i : ℕ) → back N m N.events v f ≡ x → back N m N.events v (f + i) ≡ back N m (n - f) x i
+      later i e = back_plus N m f i N.events v ∙ ap (λ y. back N m (N.events - f) y i) e ∙ ap (λ j. back N m (j - f) x i) (sym same)

@@ -1,11 +1,16 @@
 -- The ones of a column, word by word.
-use Rattle.std.proofs.Common.{◌≡◌, ℕ, ◌+◌, ◌/◌, ◌%◌, ◌^◌, List, [], ◌∷◌, ◌++◌, bit_xor, arith}
+use Rattle.std.proofs.Common.{◌≡◌, ℕ, ◌+◌, ◌/◌, ◌%◌, ◌^◌, List, [], ◌∷◌, ◌++◌, bit_xor, sym, ap, ◌∙◌, add_assoc, zero-add, arith}
 use Rattle.std.proofs.lemmas.Nat.Bits.{bit_at_xor, bit_at_lowest}
 use Rattle.file.specs.Columns.{bit, ones_in}
 
-ones_push : (c : ℕ) (ws : List ℕ) (w : ℕ) → ones_in c (ws ++ w ∷ []) ≡ ones_in c ws + bit c w
-ones_push c [] w = omega arith
-ones_push c (x ∷ ws) w = omega (arith, ones_push c ws w)
+-- of words one list after another
+ones_joined : (c : ℕ) (xs ys : List ℕ) → ones_in c (xs ++ ys) ≡ ones_in c xs + ones_in c ys
+ones_joined c [] ys = sym (zero-add (ones_in c ys))
+ones_joined c (x ∷ xs) ys = ap (λ n. bit c x + n) (ones_joined c xs ys) ∙ sym (add_assoc (bit c x) (ones_in c xs) (ones_in c ys))
+
+-- one word more
+pub ones_push : (c : ℕ) (ws : List ℕ) (w : ℕ) → ones_in c (ws ++ w ∷ []) ≡ ones_in c ws + bit c w
+ones_push c ws w = ones_joined c ws (w ∷ []) ∙ omega arith
 
 -- one word more turns the parity of a column where it has a 1
 pub parity_push : (c : ℕ) (ws : List ℕ) (w odd : ℕ) → odd % 2 ≡ ones_in c ws % 2 → bit_xor odd (w / 2 ^ c) % 2 ≡ ones_in c (ws ++ w ∷ []) % 2

@@ -17,7 +17,7 @@ use Rattle.file.proofs.RightWords.{HeadingFields, WaitFields, ClaimFields, Place
 use Rattle.file.proofs.Steps.{role_in_item, next_base, item_before}
 
 -- no number of a counted list is beyond b if none of its terms is
-none_beyond : (b : ℕ) (f : ℕ → ℤ) (a n : ℕ) → ((p : ℕ) → p < n → beyond b (f (a + p)) ≡ false) → some_beyond b (map f (range_with_len a n)) ≡ false
+pub none_beyond : (b : ℕ) (f : ℕ → ℤ) (a n : ℕ) → ((p : ℕ) → p < n → beyond b (f (a + p)) ≡ false) → some_beyond b (map f (range_with_len a n)) ≡ false
 none_beyond b f a zero h = refl
 none_beyond b f a (suc n) h =
     let first : beyond b (f a) ≡ false = subst (λ i. beyond b (f i) ≡ false) (let e : a + 0 ≡ a = omega arith in e) (h 0 (omega arith)) in
@@ -29,7 +29,7 @@ item_count_lem : (d : ℕ) (ws : List ℕ) (i : ℕ) → length ws ≡ base d i 
 item_count_lem d ws i e = ap (λ n. n / (1 + d)) (let z : length ws - 2 ≡ i * (1 + d) + 0 = omega arith in z) ∙ div-mul-add i (1 + d) 0 (omega arith)
 
 -- the words of a claim after n waits lie before the last word
-claim_inside : (d : ℕ) (ws : List ℕ) (n : ℕ) (c : Bool) → length ws ≡ base d (n + cond c 1 0) + 1 → c ≡ true → base d n + 1 + d < length ws
+pub claim_inside : (d : ℕ) (ws : List ℕ) (n : ℕ) (c : Bool) → length ws ≡ base d (n + cond c 1 0) + 1 → c ≡ true → base d n + 1 + d < length ws
 claim_inside d ws n c items t =
     let i : n + cond c 1 0 ≡ suc n = ap (λ (b : Bool). n + cond b 1 0) t ∙ omega arith in
     omega (arith, ap (base d) i, next_base d n)
@@ -135,7 +135,7 @@ module _ {m d : ℕ} {ws : List ℕ} {n : ℕ} {c : Bool} (x : Laid m d ws n c) 
   row_near j b h e =
       none_beyond (reach (place b)) (λ p. place_of (word_no ws (base d j + 1 + p))) 0 d (λ p l. (place_fields j b h e (0 + p) (omega arith)).1)
 
-  wait_is : (j : ℕ) → j < n → is_claim d ws j ≡ false
+  pub wait_is : (j : ℕ) → j < n → is_claim d ws j ≡ false
   wait_is j h = ne_eqb (kind_bits (word_no ws (base d j))) 4 (wait_no_claim j h)
 
   few_waits : n ≤ 20000

@@ -12,10 +12,11 @@ use Rattle.file.specs.Layout.{base, is_claim, stated_events}
 use Rattle.file.specs.Contents.{places_from, wait_in, claim_in, first_waits, meant, contents, has_claim, spelled_waits}
 use Rattle.file.specs.Opening.{Opens}
 use Rattle.file.specs.Spelling.{place_bits, place_word, wait_words, waits_words, claim_words, spelling, Spelled, Fileable, FileableClaim}
-use Rattle.file.proofs.WaitLists.{within, waits_length, waits_at}
+use Rattle.file.proofs.WaitLists.{waits_length, waits_at}
 use Rattle.file.proofs.Steps.{next_base}
 use Rattle.file.proofs.RightWords.{HeadingFields, WaitFields, ClaimFields}
-use Rattle.file.proofs.Kept.{Laid, laid, outlined, facts, item_inside, heading_fields, wait_fields, claim_fields, place_fields, row_near}
+use Rattle.file.proofs.Kept.{Laid, laid, outlined, facts, item_inside, heading_fields, wait_fields, claim_fields, place_fields}
+use Rattle.file.proofs.Claims.{places_right}
 
 -- a right word is made of its kind and its fields
 heading_word : (m w : ℕ) → HeadingFields m w → w ≡ 1 * 2 ^ 28 + m * 2 ^ 24 + lower w
@@ -101,7 +102,7 @@ module _ {m d : ℕ} {ws : List ℕ} {n : ℕ} {c : Bool} (x : Laid m d ws n c) 
         some = f.3.1;
         few = f.3.2;
         places = length-map-range_with_len (λ p. place_of (word_no ws (base d n + 1 + p))) 0 d;
-        near = within 86400000 (places_from d ws (base d n + 1)) (row_near x n true (omega (arith, f.0)) f.1);
+        near = places_right m d ws x.last x.closed n f.1 (omega (arith, f.0));
       }
 
 -- and so can all contents of what opens

@@ -1,5 +1,6 @@
 -- How the reader's state goes with the roles of the words.
-use Rattle.std.proofs.Common.{◌≡◌, ℕ, zero, suc, ◌+◌, ◌-◌, ◌*◌, ◌%◌, ◌<◌, ◌≤◌, Bool, true, false, eqb, List, length, Some, sym, refl, ap, ◌∙◌, subst, inl, inr, mul-le-mul_right, suc-mul, arith, eq-eqb, ne_eqb, below_more}
+use Rattle.std.proofs.Common.{◌≡◌, ℕ, zero, suc, ◌+◌, ◌-◌, ◌*◌, ◌%◌, ◌<◌, ◌≤◌, Bool, true, false, cond, eqb, List, length, IfSome, Some, sym, refl, ap, ◌∙◌, subst, subst₂, inl, inr, mul-le-mul_right, suc-mul, arith, eq-eqb, ne_eqb, below_more}
+use Rattle.std.specs.Option.{is_some}
 use Rattle.std.proofs.lemmas.Nat.{div-mul-add, mod-mul-add}
 use Rattle.std.proofs.lemmas.Bool.{eqb-true}
 use Rattle.file.specs.Words.{kind_bits, lower, word_no}
@@ -110,109 +111,88 @@ plus_none j = omega arith
 plus_one : (j : ℕ) → j + 1 ≡ suc j
 plus_one j = omega arith
 
--- a right word w leads on from reader r to reader s
-module _ (ws : List ℕ) (k : ℕ) (w : Word) (r s : Reader) (x : CameTo ws k r) (at : w.at ≡ k) (bits : w.bits ≡ word_no ws k) (right : fault_in r.measure r.events (role_of r.state r.waits) w.bits ≡ 0) where
-  -- past it, if it is not the closing word
-  on : (t : ℕ) → kind_bits w.bits ≡ t → (t ≡ 5 → ⊥) → RightTo r.measure r.places ws (k + 1)
-  on t q n = below_more (Right r.measure r.places ws) k x.before (fault_found ws k r w.bits x.stands bits ∙ right, λ z. n (sym q ∙ ap kind_bits bits ∙ z))
-
-  came_from : (t : State) → 0 < r.places → StandsIn t ws k r → GoesFrom t w r s → Going s.state → CameTo ws (k + 1) s
-  came_from Start p h g o =
-      subst (CameTo ws (k + 1)) (sym g.1)
-      (record {
-        before = on 1 g.0 (λ z. omega arith);
-        stands = (omega (arith, h.0, ap (base r.places) h.1), ap (after_claim r.places ws) h.1, ap lower (bits ∙ ap (word_no ws) h.0), h.2);
-        going = tt;
-      })
-  came_from Items p h g o =
+-- word k, where reader r stands, leads on to reader s
+module _ (ws : List ℕ) (k : ℕ) (w : Word) (r s : Reader) (at : w.at ≡ k) (bits : w.bits ≡ word_no ws k) where
+  stood_on : (t : State) → 0 < r.places → StandsIn t ws k r → GoesFrom t w r s → Going s.state → Stands ws (k + 1) s × (kind_bits w.bits ≡ 5 → ⊥)
+  stood_on Start p h g o =
+      (subst (Stands ws (k + 1)) (sym g.1) (omega (arith, h.0, ap (base r.places) h.1), ap (after_claim r.places ws) h.1, ap lower (bits ∙ ap (word_no ws) h.0), h.2), λ q. omega (arith, g.0))
+  stood_on Items p h g o =
       elim g [
         | inl a ↦
-            subst (CameTo ws (k + 1)) (sym a.1)
-            (record {
-              before = on 2 a.0 (λ z. omega arith);
-              stands = (r.waits, (omega arith, h.3), omega (arith, h.0, next_base r.places r.waits), p, omega arith, no_claim r.places ws r.waits k w.bits h.0 bits (λ q. omega (arith, a.0)), h.2);
-              going = tt;
-            })
+            (subst (Stands ws (k + 1)) (sym a.1) (r.waits, (omega arith, h.3), omega (arith, h.0, next_base r.places r.waits), p, omega arith, no_claim r.places ws r.waits k w.bits h.0 bits (λ q. omega (arith, a.0)), h.2), λ q. omega (arith, a.0))
         | inr b ↦ elim b [
           | inl a ↦
-              subst (CameTo ws (k + 1)) (sym a.1)
-              (record {
-                before = on 4 a.0 (λ z. omega arith);
-                stands = (r.waits, (refl, ap Some (at ∙ h.0)), omega (arith, h.0, next_base r.places r.waits), p, omega arith, a_claim r.places ws r.waits k w.bits h.0 bits a.0, h.2);
-                going = tt;
-              })
+              (subst (Stands ws (k + 1)) (sym a.1) (r.waits, (refl, ap Some (at ∙ h.0)), omega (arith, h.0, next_base r.places r.waits), p, omega arith, a_claim r.places ws r.waits k w.bits h.0 bits a.0, h.2), λ q. omega (arith, a.0))
           | inr a ↦ absurd (subst (λ (y : Reader). Going y.state) a.1 o)
         ]
       ]
-  came_from (Row i zero) p h g o = absurd (let z : ⊥ = omega (arith, h.3) in z)
-  came_from (Row Wait (suc zero)) p h g o =
-      subst (CameTo ws (k + 1)) (sym (g.2 ∙ ap (λ t. record r { state = t }) g.1))
-      (record {
-        before = on 3 g.0 (λ z. omega arith);
-        stands = (h.2 ∙ ap (base r.places) (sym h.1.0), ap (after_claim r.places ws) h.1.0 ∙ h.5, h.6, h.1.1);
-        going = tt;
-      })
-  came_from (Row Claim (suc zero)) p h g o =
-      subst (CameTo ws (k + 1)) (sym (g.2 ∙ ap (λ t. record r { state = t }) g.1))
-      (record {
-        before = on 3 g.0 (λ z. omega arith);
-        stands = (h.2 ∙ ap (λ j. base r.places (suc j)) (sym h.1.0), ap (is_claim r.places ws) h.1.0 ∙ h.5, h.6, h.1.1 ∙ ap (λ j. Some (base r.places j)) (sym h.1.0));
-        going = tt;
-      })
-  came_from (Row i (suc (suc n))) p h g o =
-      subst (CameTo ws (k + 1)) (sym (g.2 ∙ ap (λ t. record r { state = t }) g.1))
-      (record {
-        before = on 3 g.0 (λ z. omega arith);
-        stands = (h.0, same_item i h.0 r (Row i (suc n)) h.1, omega (arith, h.2), omega arith, omega (arith, h.4), h.5, h.6);
-        going = tt;
-      })
-  came_from Claimed p h g o = absurd (subst (λ (y : Reader). Going y.state) g.1 o)
-  came_from Closed p h g o = absurd h
+  stood_on (Row i zero) p h g o = absurd (let z : ⊥ = omega (arith, h.3) in z)
+  stood_on (Row Wait (suc zero)) p h g o =
+      (subst (Stands ws (k + 1)) (sym (g.2 ∙ ap (λ t. record r { state = t }) g.1)) (h.2 ∙ ap (base r.places) (sym h.1.0), ap (after_claim r.places ws) h.1.0 ∙ h.5, h.6, h.1.1), λ q. omega (arith, g.0))
+  stood_on (Row Claim (suc zero)) p h g o =
+      (subst (Stands ws (k + 1)) (sym (g.2 ∙ ap (λ t. record r { state = t }) g.1)) (h.2 ∙ ap (λ j. base r.places (suc j)) (sym h.1.0), ap (is_claim r.places ws) h.1.0 ∙ h.5, h.6, h.1.1 ∙ ap (λ j. Some (base r.places j)) (sym h.1.0)), λ q. omega (arith, g.0))
+  stood_on (Row i (suc (suc n))) p h g o =
+      (subst (Stands ws (k + 1)) (sym (g.2 ∙ ap (λ t. record r { state = t }) g.1)) (h.0, same_item i h.0 r (Row i (suc n)) h.1, omega (arith, h.2), omega arith, omega (arith, h.4), h.5, h.6), λ q. omega (arith, g.0))
+  stood_on Claimed p h g o = absurd (subst (λ (y : Reader). Going y.state) g.1 o)
+  stood_on Closed p h g o = absurd h
 
-  pub came_on : 0 < r.places → Goes w r s → Going s.state → CameTo ws (k + 1) s
-  came_on p g o = came_from r.state p x.stands g o
+  -- one word on: where reader s stands, and that the word is not the closing word
+  pub advance : 0 < r.places → Stands ws k r → Goes w r s → Going s.state → Stands ws (k + 1) s × (kind_bits w.bits ≡ 5 → ⊥)
+  advance p h g o = stood_on r.state p h g o
 
-  -- at the closing word, what the file holds if that is the last word
+-- no closed state has the closing word yet to come
+never : {X : Type 0} (t : State) → Going t → Closed ≡ t → X
+never t o e = absurd (subst Going (sym e) o)
+
+-- the word that closes the file, and leads from reader r to reader s: where it stands, and what came before it
+module _ (ws : List ℕ) (k : ℕ) (w : Word) (r s : Reader) where
   abbrev Found : Reader → Type 0
-  Found y = (kind_bits w.bits ≡ 5) × (k + 1 ≡ length ws → Outlined r.places ws (record { events = y.events; waits = y.waits; claim = y.claim }))
-
-  never : (y : Reader) → s ≡ y → Going y.state → s.state ≡ Closed → Found s
-  never y e o q = absurd (subst Going (sym (ap (λ (z : Reader). z.state) e) ∙ q) o)
+  Found y = (kind_bits w.bits ≡ 5) × (k ≡ base r.places (y.waits + cond (is_some y.claim) 1 0)) × (is_some y.claim ≡ after_claim r.places ws (y.waits + cond (is_some y.claim) 1 0)) × (y.events ≡ stated_events ws) × IfSome y.claim (λ i. i ≡ base r.places y.waits)
 
   found_from : (t : State) → StandsIn t ws k r → GoesFrom t w r s → s.state ≡ Closed → Found s
-  found_from Start h g q = never _ g.1 tt q
+  found_from Start h g q = never Items tt (sym q ∙ ap (λ (y : Reader). y.state) g.1)
   found_from Items h g q =
       elim g [
-        | inl a ↦ never _ a.1 tt q
+        | inl a ↦ never (Row Wait r.places) tt (sym q ∙ ap (λ (y : Reader). y.state) a.1)
         | inr b ↦ elim b [
-          | inl a ↦ never _ a.1 tt q
-          | inr a ↦ subst Found (sym a.1) (
-            a.0,
-            λ n. subst (λ c. Outlined r.places ws (record { events = r.events; waits = r.waits; claim = c })) (sym h.3) (record {
-              counted = record { stated = h.2; items = sym n ∙ omega (arith, h.0, ap (base r.places) (plus_none r.waits)); claims = sym h.1 ∙ ap (after_claim r.places ws) (sym (plus_none r.waits)) };
-              claim_at = tt;
-            }),
-          )
+          | inl a ↦ never (Row Claim r.places) tt (sym q ∙ ap (λ (y : Reader). y.state) a.1)
+          | inr a ↦
+              subst Found (sym (a.1 ∙ ap (λ c. record r { state = Closed; claim = c }) h.3))
+              (a.0, omega (arith, h.0, ap (base r.places) (plus_none r.waits)), sym h.1 ∙ ap (after_claim r.places ws) (sym (plus_none r.waits)), h.2, tt)
         ]
       ]
   found_from (Row i zero) h g q = absurd (let z : ⊥ = omega (arith, h.3) in z)
-  found_from (Row Wait (suc zero)) h g q = never _ (g.2 ∙ ap (λ t. record r { state = t }) g.1) tt q
-  found_from (Row Claim (suc zero)) h g q = never _ (g.2 ∙ ap (λ t. record r { state = t }) g.1) tt q
-  found_from (Row i (suc (suc n))) h g q = never _ (g.2 ∙ ap (λ t. record r { state = t }) g.1) tt q
+  found_from (Row Wait (suc zero)) h g q = never Items tt (sym q ∙ g.1)
+  found_from (Row Claim (suc zero)) h g q = never Claimed tt (sym q ∙ g.1)
+  found_from (Row i (suc (suc n))) h g q = never (Row i (suc n)) tt (sym q ∙ g.1)
   found_from Claimed h g q =
-      subst Found (sym g.1) (
-        g.0,
-        λ n. subst (λ c. Outlined r.places ws (record { events = r.events; waits = r.waits; claim = c })) (sym h.3) (record {
-          counted = record { stated = h.2; items = sym n ∙ omega (arith, h.0, ap (base r.places) (plus_one r.waits)); claims = sym h.1 ∙ ap (after_claim r.places ws) (sym (plus_one r.waits)) };
-          claim_at = refl;
-        }),
-      )
+      subst Found (sym (g.1 ∙ ap (λ c. record r { state = Closed; claim = c }) h.3))
+      (g.0, omega (arith, h.0, ap (base r.places) (plus_one r.waits)), sym h.1 ∙ ap (after_claim r.places ws) (sym (plus_one r.waits)), h.2, refl)
   found_from Closed h g q = absurd h
 
+  pub finish : Stands ws k r → Goes w r s → s.state ≡ Closed → Found s
+  finish h g q = found_from r.state h g q
+
+-- a right word w leads on from reader r to reader s
+module _ (ws : List ℕ) (k : ℕ) (w : Word) (r s : Reader) (x : CameTo ws k r) (at : w.at ≡ k) (bits : w.bits ≡ word_no ws k) (right : fault_in r.measure r.events (role_of r.state r.waits) w.bits ≡ 0) where
+  -- past it, if it is not the closing word
+  pub came_on : 0 < r.places → Goes w r s → Going s.state → CameTo ws (k + 1) s
+  came_on p g o =
+      let a = advance ws k w r s at bits p x.stands g o in
+      let m = kept w r s g in
+      record {
+        before = subst₂ (λ m d. RightTo m d ws (k + 1)) (sym m.0) (sym m.1) (below_more (Right r.measure r.places ws) k x.before (fault_found ws k r w.bits x.stands bits ∙ right, λ z. a.1 (ap kind_bits bits ∙ z)));
+        stands = a.0;
+        going = o;
+      }
+
+  -- at the closing word, what the file holds if that is the last word
   pub closed : Goes w r s → s.state ≡ Closed → ClosedAt r.measure r.places ws k × (k + 1 ≡ length ws → Outlined r.places ws (record { events = s.events; waits = s.waits; claim = s.claim }))
   closed g q =
-      let f = found_from r.state x.stands g q in
-      (record { before = x.before; right = fault_found ws k r w.bits x.stands bits ∙ right; closing = sym (ap kind_bits bits) ∙ f.0 }, f.1)
+      let f = finish ws k w r s x.stands g q in (
+        record { before = x.before; right = fault_found ws k r w.bits x.stands bits ∙ right; closing = sym (ap kind_bits bits) ∙ f.0 },
+        λ n. record { counted = record { stated = f.3; items = sym n ∙ ap (λ i. i + 1) f.1; claims = f.2 }; claim_at = f.4 },
+      )
 
 pub going : (t : State) → (t ≡ Closed → ⊥) → Going t
 going Start n = tt

@@ -1,4 +1,5 @@
 pub mod Multiples
+pub mod Writes
 pub mod RightPeriods
 pub mod Declined
 pub mod Ascii

@@ -5,7 +5,6 @@ use Rattle.std.proofs.lemmas.List.{length-map, length-take-le, get_or-map, get_o
 use Rattle.std.proofs.lemmas.Simd.{map-map}
 use Rattle.std.proofs.lemmas.List.FromFn.{fill_by_all}
 use Rattle.amount.specs.Rows.{Row, places, zero_row, Within, OrderLaws}
-use Rattle.amount.specs.Scales.{Scale}
 use Rattle.amount.specs.Spans.{span}
 use Rattle.amount.specs.Groups.{row_group}
 use Rattle.amount.proofs.Bounds.{within_more}
@@ -13,9 +12,7 @@ use Rattle.network.specs.Networks.{Graph, Sound}
 use Rattle.network.specs.Walks.{Net, net, Walk, count}
 use Rattle.network.specs.Walks.{Period as IsPeriod}
 use Rattle.network.proofs.Pigeon.{pigeon}
-use Rattle.engine.specs.Solved.{row_at}
 use Rattle.engine.proofs.Magnitudes.{amount_near, within_total}
-use Rattle.report.specs.Reports.{rows_of}
 
 -- a walk's waits are waits of the network
 walk_known : {A : Type 0} (N : Net A) (u : ℕ) (es : List ℕ) (v : ℕ) → Walk N u es v → (i : ℕ) → i < length es → get_or es i 0 < N.waits
@@ -48,13 +45,13 @@ module _ {d : ℕ} {le : Row d → Row d → Bool} (o : OrderLaws d le) {g : Gra
   near n b k h = subst (Within d b) (sym right.sums) (within_more d (length es * span) b _ (omega (arith, k)) (within_total o (net d g) span (amount_near d g sound) _ es _ right.loop.closed.walk))
 
 -- the departures of n events, as the slice that holds them shows them
-pub shown_rows : {X : Type 0} (m : Scale X) (xs : List X) (n : ℕ) → n ≤ length xs → rows_of m (take n xs) ≡ map (λ v. places m.places (row_at m xs v)) (range_with_len 0 n)
-shown_rows m xs n h =
-    let zero = zero_row m.places in
-    let rs = map m.row (take n xs) in
-    let l : length rs ≡ n = length-map (take n xs) m.row ∙ length-take-le n xs h in
-    sym (map-map (places m.places) m.row (take n xs))
-    ∙ fill_by_all (λ v. places m.places (row_at m xs v)) (map (places m.places) rs) n [] (length-map rs (places m.places) ∙ l)
+pub shown_rows : {X : Type 0} (d : ℕ) (row : X → Row d) (xs : List X) (n : ℕ) → n ≤ length xs → map (λ x. places d (row x)) (take n xs) ≡ map (λ v. places d (get_or (map row xs) v (zero_row d))) (range_with_len 0 n)
+shown_rows d row xs n h =
+    let zero = zero_row d in
+    let rs = map row (take n xs) in
+    let l : length rs ≡ n = length-map (take n xs) row ∙ length-take-le n xs h in
+    sym (map-map (places d) row (take n xs))
+    ∙ fill_by_all (λ v. places d (get_or (map row xs) v zero)) (map (places d) rs) n [] (length-map rs (places d) ∙ l)
     (λ k u.
-    let e : get_or rs k zero ≡ row_at m xs k = ap (λ zs. get_or zs k zero) (sym (take-map m.row n xs)) ∙ get_or-take n (map m.row xs) k zero u in
-    get_or-map (places m.places) rs k zero [] (omega arith) ∙ ap (places m.places) e)
+    let e : get_or rs k zero ≡ get_or (map row xs) k zero = ap (λ zs. get_or zs k zero) (sym (take-map row n xs)) ∙ get_or-take n (map row xs) k zero u in
+    get_or-map (places d) rs k zero [] (omega arith) ∙ ap (places d) e)

@@ -1,5 +1,7 @@
 use Rattle.std.proofs.Common.{◌≡◌, ℕ, ◌+◌, ◌-◌, ◌*◌, ◌<◌, ◌≤◌, List, ◌++◌, length, take, drop, sym, ◌∙◌, ap, subst, mul-le-mul_right, suc-mul, length-take, add-one, arith}
 use Rattle.std.proofs.lemmas.Slice.{drop-append-drop}
+use Rattle.amount.specs.Groups.{row_group}
+use Rattle.network.specs.Walks.{net}
 use Rattle.engine.specs.Solved.{table_size}
 use Rattle.engine.specs.Filled.{RowDone}
 use Rattle.engine.proofs.Cells.{split_past}
@@ -12,13 +14,14 @@ row_fits n k h = let p = mul-le-mul_right n h in let b = suc-mul n n in rw (add-
 
 pub next_row-requires-clause-done : goal.next_row-requires-clause-done
 next_row-requires-clause-done g c =
+    let m = g.X.Scaled.scale in
     let graph = g.N.Network.graph c.args.net.now in
     let e = c.event_count-n.ensures in
     let sx = c.split_at_mut-rows in
     let sy = c.split_at_mut-marks in
     let k = c.loop-k.k in
-    subst (λ n. RowDone g.X.Scaled.scale graph k (take (length sx.result.0.now - k * n) (drop (k * n) sx.result.0.now)) (take (length sy.result.0.now - k * n) (drop (k * n) sy.result.0.now))) (sym e)
-    (rows_read g.X.Scaled.scale graph k _ _ _ sx.ensures.value _ _ _ sy.ensures.value (sx.ensures.front_len ∙ ap (λ n. (k + 1) * n) e) (sy.ensures.front_len ∙ ap (λ n. (k + 1) * n) e) c.loop-k.invariant.0)
+    subst (λ n. RowDone m graph k (take (length sx.result.0.now - k * n) (drop (k * n) sx.result.0.now)) (take (length sy.result.0.now - k * n) (drop (k * n) sy.result.0.now))) (sym e)
+    (rows_read (row_group m.order) (net m.places graph) m.row k _ _ _ sx.ensures.value _ _ _ sy.ensures.value (sx.ensures.front_len ∙ ap (λ n. (k + 1) * n) e) (sy.ensures.front_len ∙ ap (λ n. (k + 1) * n) e) c.loop-k.invariant.0)
 
 pub loop-k-preserved : goal.loop-k-preserved
 loop-k-preserved g c =
@@ -36,7 +39,7 @@ loop-k-preserved g c =
     let fits = row_fits graph.events k (omega (arith, e, c.loop-k-test.true)) in
     let long : length p ≡ n = omega (arith, c.next_row.auto.next_rows, length-take n sx.result.1.now, sx.ensures.back_len, c.loop-k.auto.rows, c.clear_row.auto.rows, c.requires.0, fits, size, e) in
     let long' : length q ≡ n = omega (arith, c.next_row.auto.next_marks, length-take n sy.result.1.now, sy.ensures.back_len, c.loop-k.auto.marks, c.clear_row.auto.marks, c.requires.1, fits, size', e) in (
-      rows_more m graph k _ _ _ sx.ensures.value _ _ _ sy.ensures.value size size' p q n c.loop-k.invariant.0 c.next_row.ensures (long ∙ e) (long' ∙ e),
+      rows_more (row_group m.order) (net m.places graph) m.row k _ _ _ sx.ensures.value _ _ _ sy.ensures.value size size' p q n c.loop-k.invariant.0 c.next_row.ensures (long ∙ e) (long' ∙ e),
       split_past _ _ _ sx.ensures.value p n (table_size graph.events) long (omega (arith, size, fits, e)) ∙ c.loop-k.invariant.1,
       split_past _ _ _ sy.ensures.value q n (table_size graph.events) long' (omega (arith, size', fits, e)) ∙ c.loop-k.invariant.2,
     )

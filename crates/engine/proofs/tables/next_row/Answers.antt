@@ -1,4 +1,5 @@
 use Rattle.std.proofs.Common.{◌≡◌, ◌+◌, ◌*◌, ◌<◌, T, length, get_or, set, sym, refl, ap, ◌∙◌, subst, ap₂, subst₂, add-one, arith}
+use Rattle.std.proofs.lemmas.List.{get_or-replicate}
 use Rattle.std.proofs.lemmas.Bool.Decides.{not_from_Decides}
 use Rattle.amount.specs.Rows.{add_row, zero_row, Within}
 use Rattle.amount.specs.Scales.{exact}
@@ -12,7 +13,7 @@ use Rattle.engine.specs.Tables.{Entry, Live}
 use Rattle.engine.proofs.Relaxed.{brings, part_all}
 use Rattle.engine.proofs.Cells.{cell, cell_read}
 use Rattle.engine.proofs.Magnitudes.{amount_near, entry_near}
-use Rattle.engine.proofs.Filling.{Filling, filling_dead, filling_keep, filling_write}
+use Rattle.engine.proofs.Filling.{Filling, filling_none, filling_dead, filling_keep, filling_write}
 use Rattle.engine.proofs.tables.next_row.Goals as goal
 use Rattle.engine.proofs.tables.next_row.Goals.{then-has_walk+then-replaces, then-has_walk+else-replaces, else-has_walk}
 
@@ -26,8 +27,14 @@ add-total-requires g c =
     let near = amount_near m.places graph (g.N.Network.owed s).sound in
     let here = cell_read m.row (zero_row m.places) c.args.rows.now w.start c.index-rows-start.result (omega (arith, c.wait-wait.ensures.starts, c.requires.room.0)) c.index-rows-start.is in
     let far : Within m.places (k * span) (m.row c.index-rows-start.result) = rw (sym here) (entry_near m.order (net m.places graph) span near k w.start _ _ (c.requires.done w.start c.wait-wait.ensures.starts)) in
-    let step : Within m.places span (m.row w.amount) = rw (asked_amount m graph c.loop-e.e w c.wait-wait.ensures.is) (near c.loop-e.e (omega (arith, c.wait_count-e-end.ensures, c.loop-e-test.true))) in
+    let step : Within m.places span (m.row w.amount) = rw (asked_amount m.places m.row graph c.loop-e.e w c.wait-wait.ensures.is) (near c.loop-e.e (omega (arith, c.wait_count-e-end.ensures, c.loop-e-test.true))) in
     g.met.X.Measure.adds.can _ _ (within_more m.places (k * span + span) exact _ (omega (arith, (g.N.Network.owed s).few, c.requires.few)) (within_add m.places (k * span) span _ _ far step))
+
+pub loop-e-init : goal.loop-e-init
+loop-e-init g c =
+    let m = g.X.Scaled.scale in
+    filling_none (row_group m.order) (net m.places (g.N.Network.graph c.args.net.now)) m.row c.args.k c.args.rows.now c.args.marks.now _ _
+    (λ v h. (c.clear_row.ensures.rows v, ap (λ y. get_or y v 0) c.clear_row.ensures.marks ∙ get_or-replicate _ v 0 0 (omega (arith, h, c.requires.next_room.1))))
 
 pub loop-e-preserved : goal.loop-e-preserved
 loop-e-preserved g c =
@@ -43,9 +50,9 @@ loop-e-preserved g c =
     let y = c.loop-e.next_marks in
     let z = zero_row m.places in
     let w = c.wait-wait.result in
-    let from = asked_start m graph e w c.wait-wait.ensures.is in
-    let to = asked_end m graph e w c.wait-wait.ensures.is in
-    let amount = asked_amount m graph e w c.wait-wait.ensures.is in
+    let from = asked_start m.places m.row graph e w c.wait-wait.ensures.is in
+    let to = asked_end m.places m.row graph e w c.wait-wait.ensures.is in
+    let amount = asked_amount m.places m.row graph e w c.wait-wait.ensures.is in
     let long-x : length x ≡ N.events = omega (arith, c.loop-e.auto.next_rows, c.clear_row.auto.rows, c.requires.next_room.0) in
     let long-y : length y ≡ N.events = omega (arith, c.loop-e.auto.next_marks, c.clear_row.auto.marks, c.requires.next_room.1) in
     let there : N.to e < N.events = rw (← to) c.wait-wait.ensures.ends in

@@ -1,4 +1,4 @@
-use Rattle.std.proofs.Common.{◌≡◌, ◌+◌, ◌<◌, ◌≤◌, length, sym, subst, rules}
+use Rattle.std.proofs.Common.{◌≡◌, ◌+◌, ◌<◌, ◌≤◌, [], length, sym, subst, rules}
 use Rattle.std.specs.List.{All}
 use Rattle.std.proofs.lemmas.List.{take_all}
 use Rattle.std.proofs.lemmas.List.Elements.{All-append, All-push}
@@ -26,7 +26,7 @@ loop-i-preserved g c =
     let means = record_means c.wait.result (wait_at net.waits i) c.wait.ensures.is c.spanned.result c.unwrap.result c.spanned.ensures c.unwrap.ensures in
     let between = subst (λ (w : PlainWait). Between net.events w) (sym means) (sound.starts i below, sound.ends i below) in
     record {
-      waits = written_more i records net.waits c.unwrap.result room below means c.loop-i.invariant.waits;
+      waits = written_more recorded i records [] net.waits i c.unwrap.result room below means c.loop-i.invariant.waits;
       between = all_edited (Between net.events) (put_edits records i c.unwrap.result room) (All-push (Between net.events) _ _ c.loop-i.invariant.between between);
     }
 
@@ -49,5 +49,5 @@ returns-clause-rule g c =
       search rules,
       search rules,
       edit_changes recorded list.events list.count (list.count + more) (append_edits list.memory.now list.count more c.loop-i.records fits c.loop-i.auto.records)
-          (appended_list list.count list.memory.now c.loop-i.records net.waits c.loop-i.i (search rules) (search rules) c.loop-i.invariant.waits),
+          (appended_list recorded list.count list.memory.now c.loop-i.records net.waits c.loop-i.i (search rules) (search rules) c.loop-i.invariant.waits),
     )

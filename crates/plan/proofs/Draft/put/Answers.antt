@@ -34,5 +34,5 @@ returns-clause-rule g c =
       space = search rules;
       number = sym n;
       after = edit_changes recorded list.events list.count (list.count + 1) (put_edits list.memory.now list.count _ (search rules))
-          (added_list list.count list.memory.now _ _ c.in_ok-record.ensures.0);
+          (added_list recorded list.count list.memory.now _ _ c.in_ok-record.ensures.0);
     }

@@ -14,5 +14,5 @@ returns-clause-rule g c =
       known = search rules;
       span = c.in_ok-amount.ensures.1;
       after = edit_changes recorded list.events list.count list.count (retime_edits list.memory.now list.count c.args.i _ below list.fits)
-          (retimed_list list.count list.memory.now list.fits c.args.i _ _ _ below (ap (λ x. places g.X.Scaled.scale.places (g.X.Scaled.scale.row x)) c.in_ok-amount.ensures.0));
+          (retimed_list g.X.Scaled.scale.places (λ y. g.X.Scaled.scale.row y.amount) list.count list.memory.now list.fits c.args.i _ _ _ below (ap (λ x. places g.X.Scaled.scale.places (g.X.Scaled.scale.row x)) c.in_ok-amount.ensures.0));
     }

@@ -41,7 +41,7 @@ returns g c =
     let graph = g.N.Network.graph c.args.net.now in
     let es = take c.args.period.count c.args.space.now.circle.now in
     let rows : rows_of m (take c.event_count.result xs) ≡ map (λ v. places m.places (row_at m xs v)) (range_with_len 0 graph.events) =
-    ap (λ k. rows_of m (take k xs)) c.event_count.ensures ∙ shown_rows m xs graph.events c.requires.leaves in
+    ap (λ k. rows_of m (take k xs)) c.event_count.ensures ∙ shown_rows m.places m.row xs graph.events c.requires.leaves in
     record {
       p = m.row c.args.period.total;
       q = c.args.period.count;

@@ -18,4 +18,4 @@ returns-clause-near g c =
     let same = ap (λ (u : Tables g.row.X.Denot). u.rows) c.self.view_is in
     let is : row_in m t c.args.k c.args.v ≡ m.row c.index-rows-place.result =
     ap (row_at m t.rows) (sym c.place.ensures) ∙ ap (λ xs. row_at m xs i) (sym same) ∙ cell_read m.row (zero_row m.places) c.self.inside.rows.now i _ (omega (arith, long, c.place.ensures, ready.rows_room, ap length same)) c.index-rows-place.is in
-    subst (Within m.places entry_span) is (entry_within m t ready c.args.k c.args.v c.requires.0 c.requires.1)
+    subst (Within m.places entry_span) is (entry_within m.order t.graph ready.owed.sound ready.owed.few c.args.k c.args.v _ _ c.requires.0 (ready.entries c.args.k c.args.v c.requires.0 c.requires.1))
