@@ -6,11 +6,11 @@ use Rattle.plan.specs.Records.{Between, recorded}
 use Rattle.plan.proofs.Lists.{meant_length, map_removed, all_removed, drop_edits, all_edited, edit_changes}
 use Rattle.plan.proofs.Draft.drop_wait.Goals as goal
 
--- a move within the records old comes to that from place i on within the records m
+-- a move of the records old from place `from` on, where `from` is i and both moves leave the same, is the move of the records m from place i on
 moves_as : {W : Type 0} {new : List W} (old m : List W) (from i end at : ℕ) → new ≡ copy_within old from end at → from ≡ i → copy_within old i end at ≡ copy_within m i end at → new ≡ copy_within m i end at
 moves_as old m from i end at is begins same = is ∙ ap (λ k. copy_within old k end at) begins ∙ same
 
--- what the move left is compared place by place, below place i and from there on, so that no way of writing it is asked for
+-- the move of the records that stand before it is compared, place by place, with that of the records found, and its start as a number
 pub invariant_of-list-clause-known : goal.invariant_of-list-clause-known
 invariant_of-list-clause-known g c =
     let list = c.args.self.now.list in
